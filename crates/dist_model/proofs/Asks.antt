@@ -25,7 +25,7 @@ use Rattle.dist_model.specs.Handshake.{with_side, write}
 use Rattle.dist_model.specs.Incarnations.{started, stopped}
 use Rattle.dist_model.specs.Items.{Handshake, Item, Signalled, has_reason}
 use Rattle.dist_model.specs.Losses.{any_side, least_record, link_to, sweep_by, sweep_record}
-use Rattle.dist_model.specs.Monitoring.{demonitor_by, monitor, unwatch, watch}
+use Rattle.dist_model.specs.Monitoring.{demonitor_by, monitor, pid_watch, unwatch, watch}
 use Rattle.dist_model.specs.Names.{Name, same_name, same_pid}
 use Rattle.dist_model.specs.Node.{Node, ends_of, is_stranger, living, reaches, route, payload_to}
 use Rattle.dist_model.specs.NodeEvents.{Arrive, Call, Dial, Local, Lose, NodeEvent, Start, Stop, Sweep, at_node}
@@ -38,15 +38,17 @@ use Rattle.erl_handshake.specs.declared.message.ShakeMsg.{ShakeMsg}
 use Rattle.erl_names.specs.Ids.{reference_of}
 use Rattle.erl_names.specs.Minted.{id_of}
 use Rattle.erl_names.specs.declared.trunk.TrunkId.{TrunkId}
-use Rattle.erl_term.specs.Data.{Data}
+use Rattle.erl_term.specs.Data.{Data, pid}
 use Rattle.erl_term.specs.declared.refusal.Refusal.{Refusal}
 use Rattle.erl_term.specs.declared.term.Pid.{Pid}
 use Rattle.erl_term.specs.declared.term.Reference.{Reference}
 use Rattle.exit_core.specs.Messages.{down_term}
 use Rattle.link_core.specs.News.{noconnection}
 use Rattle.link_core.specs.declared.end.End.{End}
-use Rattle.monitor_core.specs.Monitors.{monitor_of}
-use Rattle.monitor_core.specs.declared.monitor.Monitor.{Monitor}
+use Rattle.monitor_core.specs.declared.monitor.Target.{Target}
+use Rattle.monitor_core.specs.declared.monitor.Watch.{Watch}
+use Rattle.monitor_core.specs.declared.monitor.Registration.{Registration}
+use Rattle.dist_model.specs.Telling.{object, taken_back, told_end}
 
 -- MONITOR_P
 abbrev pub asks : Item → Bool
@@ -78,24 +80,32 @@ exits_quiet p x (l ∷ ls) = quiets-append (exit_for p x l.0 l.1) (exits p x ls)
     one End.Active = (refl, tt)
     one _ = tt
 
-monitor_exits_quiet : (p : Pid) (x : Data) (es : List (Reference × Monitor)) → Quiets (monitor_exits p x es)
+told_quiet : (t : Target) (o : Pid) (k : Reference) (x : Data) → Quiets (told_end t o k x)
+told_quiet (Target.Pid q) o k x = (refl, tt)
+told_quiet (Target.Name name node) o k x = tt
+
+back_quiet : (p : Pid) (t : Target) (k : Reference) → Quiets (taken_back p t k)
+back_quiet p (Target.Pid q) k = (refl, tt)
+back_quiet p (Target.Name name node) k = tt
+
+monitor_exits_quiet : (p : Pid) (x : Data) (es : List (Reference × Registration)) → Quiets (monitor_exits p x es)
 monitor_exits_quiet p x [] = tt
 monitor_exits_quiet p x (e ∷ es) =
-    quiets-append (cond (same_pid e.1.target p) (to_pid e.1.owner (Signal.MonitorExit p e.1.owner e.0 x) ∷ []) []) (monitor_exits p x es)
-    (one (same_pid e.1.target p)) (monitor_exits_quiet p x es)
+    quiets-append (cond (same_pid e.1.held p) (told_end e.1.target e.1.owner e.0 x) []) (monitor_exits p x es)
+    (one (same_pid e.1.held p)) (monitor_exits_quiet p x es)
   where
-    one : (b : Bool) → Quiets (cond b (to_pid e.1.owner (Signal.MonitorExit p e.1.owner e.0 x) ∷ []) [])
-    one true = (refl, tt)
+    one : (b : Bool) → Quiets (cond b (told_end e.1.target e.1.owner e.0 x) [])
+    one true = told_quiet e.1.target e.1.owner e.0 x
     one false = tt
 
-demonitors_quiet : (p : Pid) (es : List (Reference × Monitor)) → Quiets (demonitors p es)
+demonitors_quiet : (p : Pid) (es : List (Reference × Watch)) → Quiets (demonitors p es)
 demonitors_quiet p [] = tt
 demonitors_quiet p (e ∷ es) =
-    quiets-append (cond (same_pid e.1.owner p) (to_pid e.1.target (Signal.Demonitor p e.1.target e.0) ∷ []) []) (demonitors p es)
+    quiets-append (cond (same_pid e.1.owner p) (taken_back p e.1.target e.0) []) (demonitors p es)
     (one (same_pid e.1.owner p)) (demonitors_quiet p es)
   where
-    one : (b : Bool) → Quiets (cond b (to_pid e.1.target (Signal.Demonitor p e.1.target e.0) ∷ []) [])
-    one true = (refl, tt)
+    one : (b : Bool) → Quiets (cond b (taken_back p e.1.target e.0) [])
+    one true = back_quiet p e.1.target e.0
     one false = tt
 
 plainly : (s : Signal) → is_plain s ≡ true → asks (Signalled s false) ≡ false
@@ -175,9 +185,9 @@ module _ (l : List Item) where
     message = λ p m o h k. reports (Effect.Put p m) o (λ t y i q. cc) k;
     reacted = λ p q x o h k. reports (Effect.LinkExit p q x) o (λ t y i q. cc) k;
     finished = finishes;
-    registers = λ r m o l h k. k;
+    registers = λ r m o l b h k. k;
     unregisters = λ r m o e h k. k;
-    ended = λ r m x o e h k. reports (Effect.Put m.owner (down_term r m.target x)) o (λ t y i q. cc) k;
+    ended = λ r m x o e h k. reports (Effect.Put m.owner (down_term r (object m.target) x)) o (λ t y i q. cc) k;
   }
 
   takes_item : (y : Name) (i : Item) (o : Work) → Unasked o → Unasked (take_item y i o)
@@ -187,7 +197,7 @@ module _ (l : List Item) where
     sent = λ p m pay e. reports (Effect.Put p m) o (λ t y j q. cc) k;
     nobody = λ p q r pay e l. refl;
     joins = λ p q r pay e l. tt;
-    drops = λ p q r pay e h. tt;
+    drops = λ p q r pay m e h s. tt;
     tells = λ p q r x pay e h. tt;
   }) k
 
@@ -243,10 +253,10 @@ module _ (n : Node) where
       swept_learns (λ u c. Unit {0}) X (turned n.local) (wrote n.local) d.0 d.1 o (ap (λ m. fm.get m d.0) same ∙ fm.get-entries n.sides d.0 ∙ f.0)
       (swept y)
 
-  demonitored : (v : Option Monitor) (p : Pid) (r : Reference) → IfGoes (demonitor_by v p r (at_work n)) X
+  demonitored : (v : Option Watch) (p : Pid) (r : Reference) → IfGoes (demonitor_by v p r (at_work n)) X
   demonitored None p r = tt
   demonitored (Some v) p r = if_cond (same_pid v.owner p) _ Refusal.NotTheOwner X
-      (λ h. posts n.local (to_pid v.target (Signal.Demonitor p v.target r)) (unwatch r (at_work n)) refl start)
+      (λ h. posts_all n.local (taken_back p v.target r) (unwatch r (at_work n)) (back_quiet p v.target r) start)
 
   apart : (c : Command) → ((p q : Pid) → c ≡ Command.Monitor p q → ⊥) → ((p : Pid) (r : Reference) → c ≡ Command.Demonitor p r → ⊥)
       → IfGoes (call n c) X
@@ -312,9 +322,9 @@ module _ (n : Node) (p q : Pid) where
   asked : (count : ℕ) → living n p ≡ true → (b : Bool) → same_name q.node n.mint.name ≡ b → (u : Option TrunkId) → route n q.node ≡ u
       → AllAsked (Answer.Reference (reference_of n.mint count)) (cond b
       (keep_local (Signalled (Signal.Monitor p q (reference_of n.mint count)) false)
-      (watch (reference_of n.mint count) (monitor_of p q) (draw kind.Reference (at_work n))))
+      (watch (reference_of n.mint count) (pid_watch p q) (draw kind.Reference (at_work n))))
       (send_on u q.node (Signalled (Signal.Monitor p q (reference_of n.mint count)) false)
-      (watch (reference_of n.mint count) (monitor_of p q) (draw kind.Reference (at_work n)))))
+      (watch (reference_of n.mint count) (pid_watch p q) (draw kind.Reference (at_work n)))))
   asked count l true e u h = (
     λ t y p' q' r pay c. let z = only c in cc,
     λ p' q' r pay c. pick p' q' r pay (Contains-push_cases n.local (Signalled (Signal.Monitor p q (reference_of n.mint count)) false)
@@ -364,11 +374,11 @@ module _ (n : Node) (p q : Pid) where
   drawn l (Some count) = go (reaches n q.node)
     where
       go : (b : Bool) → AllAsked (Answer.Reference (reference_of n.mint count)) (cond b
-          (post (to_pid q (Signal.Monitor p q (reference_of n.mint count))) (watch (reference_of n.mint count) (monitor_of p q) (draw kind.Reference (at_work n))))
-          (put p (down_term (reference_of n.mint count) q noconnection) (draw kind.Reference (at_work n))))
+          (post (to_pid q (Signal.Monitor p q (reference_of n.mint count))) (watch (reference_of n.mint count) (pid_watch p q) (draw kind.Reference (at_work n))))
+          (put p (down_term (reference_of n.mint count) (pid q) noconnection) (draw kind.Reference (at_work n))))
       go true = asked count l (same_name q.node n.mint.name) refl (route n q.node) refl
-      go false = without (Effect.Put p (down_term (reference_of n.mint count) q noconnection)) (λ t y i e. cc)
-          (put p (down_term (reference_of n.mint count) q noconnection) (draw kind.Reference (at_work n))) refl refl
+      go false = without (Effect.Put p (down_term (reference_of n.mint count) (pid q) noconnection)) (λ t y i e. cc)
+          (put p (down_term (reference_of n.mint count) (pid q) noconnection) (draw kind.Reference (at_work n))) refl refl
           (Answer.Reference (reference_of n.mint count))
 
   answers_cond : (b : Bool) (k : Outcome) (j : Refusal) → (b ≡ true → IfAnswers k AllAsked) → IfAnswers (cond b k (Refuses j)) AllAsked

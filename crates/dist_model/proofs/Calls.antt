@@ -18,11 +18,11 @@ use Rattle.dist_model.specs.Exits.{sent_exit}
 use Rattle.erl_control.specs.Fits.{fits}
 use Rattle.dist_model.specs.Items.{Item, Signalled, news_in, telling}
 use Rattle.dist_model.specs.Linking.{unlink_by}
-use Rattle.dist_model.specs.Monitoring.{demonitor_by, monitor, register, unregister, unwatch, watch}
+use Rattle.dist_model.specs.Monitoring.{demonitor_by, monitor, pid_watch, register, registration_of, unregister, unwatch, watch}
 use Rattle.dist_model.specs.Names.{Name, same_name, same_pid}
 use Rattle.dist_model.specs.Node.{Life, Living, Node, end_of, is_living_life, living, is_stranger, reaches, traps_life}
 use Rattle.dist_model.specs.Taking.{take_item}
-use Rattle.dist_model.specs.Work.{Work, at_work, draw, post, put, set_end, set_life, spelled, to_pid}
+use Rattle.dist_model.specs.Work.{Work, at_work, draw, post, post_all, put, set_end, set_life, spelled, to_pid}
 use Rattle.erl_control.specs.declared.signal.Signal.{Signal}
 use Rattle.erl_names.specs.Ids.{pid_of, reference_of}
 use Rattle.erl_names.specs.Minted.{Minted, drawn, id_of, last, risen}
@@ -35,11 +35,15 @@ use Rattle.exit_core.specs.Reaction.{reaction}
 use Rattle.link_core.specs.News.{Exited, LinkNews, Signals, noconnection, noproc}
 use Rattle.link_core.specs.declared.end.End.{End}
 use Rattle.link_core.specs.declared.end.LinkSignal.{LinkSignal}
-use Rattle.monitor_core.specs.Monitors.{MonitorMap, added, is_held, monitor_of}
-use Rattle.monitor_core.specs.declared.monitor.Monitor.{Monitor}
+use Rattle.monitor_core.specs.Monitors.{MonitorMap, RegistrationMap, WatchMap, added, as_watch, is_held, itself}
 use Rattle.std.specs.FinMap.{FinMap}
 use Rattle.erl_names.specs.declared.trunk.TrunkId.{TrunkId}
 use Rattle.link_core.proofs.Kept.{Kept, side_path}
+use Rattle.monitor_core.specs.declared.monitor.Target.{Target}
+use Rattle.monitor_core.specs.declared.monitor.Watch.{Watch}
+use Rattle.dist_model.specs.Telling.{taken_back}
+use Rattle.erl_term.specs.Data.{pid}
+use Rattle.monitor_core.specs.declared.monitor.Registration.{Registration}
 
 -- what holds of the work where the event goes through
 abbrev pub IfGoes : Outcome → (Work → Type 0) → Type 0
@@ -77,7 +81,7 @@ same_lives o m h = record {
 }
 
 -- neither a life nor an end nor a side: monitors and their references alone
-monitors_move : (o : Work) (references : ℕ) (watches registered : MonitorMap) → Moves o (record o {
+monitors_move : (o : Work) (references : ℕ) (watches : WatchMap) (registered : RegistrationMap) → Moves o (record o {
   node = record (o.node) { mint = record (o.node.mint) { references = references }; watches = watches; registered = registered };
 })
 monitors_move o references watches registered = record {
@@ -93,7 +97,7 @@ monitors_move o references watches registered = record {
   views = λ n b p q c r k. k;
 }
 
-pub registers : (k : Reference) (v : Monitor) (o : Work) → Moves o (register k v o)
+pub registers : (k : Reference) (v : Registration) (o : Work) → Moves o (register k v o)
 registers k v o = monitors_move o o.node.mint.references o.node.watches (added o.node.registered k v)
 
 pub unregisters : (k : Reference) (o : Work) → Moves o (unregister k o)
@@ -102,7 +106,7 @@ unregisters k o = monitors_move o o.node.mint.references o.node.watches (fm.remo
 pub unwatches_one : (k : Reference) (o : Work) → Moves o (unwatch k o)
 unwatches_one k o = monitors_move o o.node.mint.references (fm.remove o.node.watches k) o.node.registered
 
-pub watches_one : (k : Reference) (v : Monitor) (o : Work) → Moves o (watch k v o)
+pub watches_one : (k : Reference) (v : Watch) (o : Work) → Moves o (watch k v o)
 watches_one k v o = monitors_move o o.node.mint.references (fm.insert o.node.watches k v) o.node.registered
 
 pub draws_reference : (o : Work) → Moves o (draw kind.Reference o)
@@ -129,12 +133,12 @@ takes_other y (Signalled (Signal.Exit2 q p r) pay) o h =
     moves_cond (living o.node p) o _ o
     (λ l. carries_out (reaction (traps_life (fm.get o.node.lives p)) (sent_exit p q r)) p o l) (λ l. stays o)
 takes_other y (Signalled (Signal.Monitor q p k) pay) o h =
-    moves_cond (living o.node p) o _ _ (λ l. registers k (monitor_of q p) o)
+    moves_cond (living o.node p) o _ _ (λ l. registers k (registration_of q p) o)
     (λ l. posts_other q.node (spelled o.node (to_pid q (Signal.MonitorExit p q k noproc))) o (λ a b. refl))
 takes_other y (Signalled (Signal.Demonitor q p k) pay) o h =
-    moves_cond (is_held o.node.registered k (monitor_of q p)) o _ _ (λ l. unregisters k o) (λ l. stays o)
-takes_other y (Signalled (Signal.MonitorExit q p k r) pay) o h = moves_cond (living o.node p && is_held o.node.watches k (monitor_of p q)) o _ _
-    (λ l. then o (unwatch k o) (put p (down_term k q r) (unwatch k o)) (unwatches_one k o) (puts p (down_term k q r) (unwatch k o)))
+    moves_cond (is_held as_watch o.node.registered k (pid_watch q p)) o _ _ (λ l. unregisters k o) (λ l. stays o)
+takes_other y (Signalled (Signal.MonitorExit q p k r) pay) o h = moves_cond (living o.node p && is_held itself o.node.watches k (pid_watch p q)) o _ _
+    (λ l. then o (unwatch k o) (put p (down_term k (pid q) r) (unwatch k o)) (unwatches_one k o) (puts p (down_term k (pid q) r) (unwatch k o)))
     (λ l. stays o)
 takes_other y _ o h = stays o
 
@@ -336,11 +340,16 @@ sets_life : (n : Node) (p : Pid) (l : Option Life) → is_living_life l ≡ livi
 sets_life n p l h =
     same_lives (at_work n) (set_life n.lives p l) (λ x. set_life_living n.lives p l x (λ e. h ∙ ap (living n) (sym (same_pid_true x p e))))
 
-demonitors : (v : Option Monitor) (p : Pid) (k : Reference) (o : Work) → IfGoes (demonitor_by v p k o) (Moves o)
+-- whichever target it was
+takes_back : (t : Target) (p : Pid) (k : Reference) (o : Work) → Moves o (post_all (taken_back p t k) o)
+takes_back (Target.Pid q) p k o = posts_other q.node (Signalled (Signal.Demonitor p q k) false) o (λ a b. refl)
+takes_back (Target.Name name node) p k o = stays o
+
+demonitors : (v : Option Watch) (p : Pid) (k : Reference) (o : Work) → IfGoes (demonitor_by v p k o) (Moves o)
 demonitors None p k o = tt
 demonitors (Some v) p k o =
     if_cond (same_pid v.owner p) _ Refusal.NotTheOwner (Moves o) (λ h. then o (unwatch k o) _ (unwatches_one k o)
-    (posts_other v.target.node (Signalled (Signal.Demonitor p v.target k) false) (unwatch k o) (λ a b. refl)))
+    (takes_back v.target p k (unwatch k o)))
 
 unlinks_by : (e : End) (p q : Pid) (o : Work) → end_of o.node p q ≡ e → living o.node p ≡ true → IfGoes (unlink_by e p q o) (Moves o)
 unlinks_by End.Active p q o h l = if_drawn (id_of o.node.mint kind.UnlinkId) _ (Moves o) (λ id e.
@@ -385,9 +394,9 @@ calls n (Command.Monitor p q) = acts n p q _ (λ l. if_drawn (id_of n.mint kind.
     let o = draw kind.Reference (at_work n) in
     let k = reference_of n.mint count in
     then (at_work n) o (monitor k p q o) (draws_reference (at_work n)) (moves_cond (reaches o.node q.node) o _ _
-    (λ r. then o (watch k (monitor_of p q) o) _ (watches_one k (monitor_of p q) o)
-    (posts_other q.node (Signalled (Signal.Monitor p q k) false) (watch k (monitor_of p q) o) (λ a b. refl)))
-    (λ r. puts p (down_term k q noconnection) o))))
+    (λ r. then o (watch k (pid_watch p q) o) _ (watches_one k (pid_watch p q) o)
+    (posts_other q.node (Signalled (Signal.Monitor p q k) false) (watch k (pid_watch p q) o) (λ a b. refl)))
+    (λ r. puts p (down_term k (pid q) noconnection) o))))
 calls n (Command.Demonitor p k) =
     if_cond (living n p) _ Refusal.NoSuchProcess (Moves (at_work n)) (λ l. demonitors (fm.get n.watches k) p k (at_work n))
 calls n (Command.Trap p b) =

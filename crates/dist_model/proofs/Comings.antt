@@ -33,7 +33,7 @@ use Rattle.dist_model.proofs.Sides.{side_at}
 use Rattle.dist_model.proofs.Steps.{not_never}
 use Rattle.dist_model.proofs.Sweeps.{link_found, losing_unreached}
 use Rattle.dist_model.proofs.Trunks.{Good, has}
-use Rattle.dist_model.proofs.Told.{Called, Course, Drawn, IsFounded, Leaves, Off, Old, Sound, Stays}
+use Rattle.dist_model.proofs.Told.{Called, CauseOf, Course, Drawn, IsFounded, Leaves, Off, Old, Sound, Stays, named_pid}
 use Rattle.dist_model.proofs.Lands.{no_more}
 use Rattle.dist_model.proofs.MonitorMoves.{lives_same, node_aside, turns_aside}
 use Rattle.dist_model.specs.Arrivals.{arrive_at, arrive_fresh, from_peer, handshake_in, is_good, on_up, signal_at, take_local, to_own}
@@ -69,8 +69,10 @@ use Rattle.erl_term.specs.declared.term.Reference.{Reference}
 use Rattle.link_core.specs.News.{Signals, noconnection}
 use Rattle.link_core.specs.declared.end.End.{End}
 use Rattle.link_core.specs.declared.end.LinkSignal.{LinkSignal}
-use Rattle.monitor_core.specs.declared.monitor.Monitor.{Monitor}
 use Rattle.dist_model.specs.Sides.{untold}
+use Rattle.monitor_core.specs.declared.monitor.Target.{Target}
+use Rattle.monitor_core.specs.declared.monitor.Watch.{Watch}
+use Rattle.monitor_core.specs.Monitors.{target_node}
 
 -- a message that was sent, or not
 pub sent_or_not : (i : Item) → ((p : Pid) × (m : Data) × (pay : Bool) × (i ≡ Signalled (Signal.Send p m) pay))
@@ -130,8 +132,8 @@ module _ (w : World) (h : History) (x : Name) (n : Node) (hx : node_of w.nodes x
 
     calm_done : (a : Answer) (o : Work) → Calm o → D e xs a o
     calm_done a o k = done w h x n hx gw g e xs a o (λ r. na r (Reported a o.effects)) (λ r. nd r (Reported a o.effects)) k.shaken.truth
-        (turns_aside (record n { local = xs }) (λ r u z. TrueCause h w u.owner u.target z)
-        (λ r u. Monitored r u.owner u.target h) (λ r u. Off w h r ⊎ (reaches n u.owner.node ≡ false))
+        (turns_aside (record n { local = xs }) (λ r u z. CauseOf h w u.owner u.target z)
+        (λ r u. Monitored r u.owner (Target.Pid u.held) h) (λ r u. Off w h r ⊎ (reaches n u.owner.node ≡ false))
         (were w h x n hx gw g) o (counted w h x n hx gw g e xs a o) (record {
           watches = λ r. refl;
           downs = λ r. none_counted r (takes_message e (Reported a o.effects)) o.effects (k.none r);
@@ -168,7 +170,7 @@ module _ (w : World) (h : History) (x : Name) (n : Node) (hx : node_of w.nodes x
           nobody = λ p q r pay j l.
               ((dead_now w h x n hx gw g q l (monitor_known p q r pay j), subst (λ v. IsFounded w h v) j fi), λ s. tt);
           joins = λ p q r pay j l. subst (λ v. IsFounded w h v) j fi;
-          drops = λ p q r pay j c. inl (subst (λ v. IsFounded w h v) j fi);
+          drops = λ p q r pay m j c s. inl (subst (λ v. IsFounded w h v) j fi);
           tells = λ p q r z pay j c. old_cause w h p q z (subst (λ v. IsFounded w h v) j fi).0;
         }
 
@@ -190,19 +192,19 @@ module _ (w : World) (h : History) (x : Name) (n : Node) (hx : node_of w.nodes x
             let o0 = at_work (record n { local = xs }) in
             let o = put p m o0 in
             let lv =
-            lives_same (record n { local = xs }) (λ r u z. TrueCause h w u.owner u.target z)
-            (λ r u. Monitored r u.owner u.target h) (λ r u. Off w h r ⊎ (reaches n u.owner.node ≡ false))
+            lives_same (record n { local = xs }) (λ r u z. CauseOf h w u.owner u.target z)
+            (λ r u. Monitored r u.owner (Target.Pid u.held) h) (λ r u. Off w h r ⊎ (reaches n u.owner.node ≡ false))
             (were w h x n hx gw g) p (delivered (fm.get n.lives p) m) o0 (living_received (fm.get n.lives p) m) in
             done w h x n hx gw g e xs (Answer.Took (kind_of i)) o (λ r. na r (Reported (Answer.Took (kind_of i)) o.effects))
             (λ r. nd r (Reported (Answer.Took (kind_of i)) o.effects))
             (true_put (record n { local = xs }) (Old w h) (Right w h e) (Called h) (Off w h) p m o0 whole.truth)
             (subst (λ b. U w h x n hx gw g e xs (record { node = o.node; effects = cond b (mere o.effects) o.effects }))
             (sym (counts o.effects ∙ is_sent))
-            (turns_aside (record n { local = xs }) (λ r u z. TrueCause h w u.owner u.target z)
-            (λ r u. Monitored r u.owner u.target h) (λ r u. Off w h r ⊎ (reaches n u.owner.node ≡ false))
+            (turns_aside (record n { local = xs }) (λ r u z. CauseOf h w u.owner u.target z)
+            (λ r u. Monitored r u.owner (Target.Pid u.held) h) (λ r u. Off w h r ⊎ (reaches n u.owner.node ≡ false))
             (were w h x n hx gw g) o0 (record o0 { node = o.node })
-            (node_aside (record n { local = xs }) (λ r u z. TrueCause h w u.owner u.target z)
-            (λ r u. Monitored r u.owner u.target h) (λ r u. Off w h r ⊎ (reaches n u.owner.node ≡ false))
+            (node_aside (record n { local = xs }) (λ r u z. CauseOf h w u.owner u.target z)
+            (λ r u. Monitored r u.owner (Target.Pid u.held) h) (λ r u. Off w h r ⊎ (reaches n u.owner.node ≡ false))
             (were w h x n hx gw g) o0 o.node refl refl refl lv refl refl refl refl) whole.core.turns))
             (record { local = whole.home.local; name = whole.home.name }) (ageless n o.node refl)
 
@@ -338,9 +340,9 @@ module _ (w : World) (h : History) (x : Name) (n : Node) (hx : node_of w.nodes x
         shaken = record {
           truth =
               true_node n (Old w h) (Right w h (Dial x y k)) (Called h) (Off w h) (at_work n) (draw_trunk n) refl refl refl c0.shaken.truth;
-          turns = turns_aside n (λ r u z. TrueCause h w u.owner u.target z) (λ r u. Monitored r u.owner u.target h)
+          turns = turns_aside n (λ r u z. CauseOf h w u.owner u.target z) (λ r u. Monitored r u.owner (Target.Pid u.held) h)
               (λ r u. Off w h r ⊎ (reaches n u.owner.node ≡ false)) (were w h x n hx gw g) (at_work n) o
-              (node_aside n (λ r u z. TrueCause h w u.owner u.target z) (λ r u. Monitored r u.owner u.target h)
+              (node_aside n (λ r u z. CauseOf h w u.owner u.target z) (λ r u. Monitored r u.owner (Target.Pid u.held) h)
               (λ r u. Off w h r ⊎ (reaches n u.owner.node ≡ false)) (were w h x n hx gw g) (at_work n)
               (draw_trunk n) refl refl refl (λ p. refl) refl refl refl refl) c0.shaken.turns;
           home = record { local = c0.shaken.home.local; name = c0.shaken.home.name };
@@ -390,11 +392,14 @@ module _ (w : World) (h : History) (x : Name) (n : Node) (hx : node_of w.nodes x
           held_active w h x n hx gw g (Sweep x) e.0.0 e.0.1 noconnection root.0 en
           (no_connection w h x n hx gw g e.0.0 e.0.1 ((kn w h x n hx gw g).born e.0.0 root.0) (ap (reaches n) v.1 ∙ far))
 
-      tells : (y : Name) → reaches n y ≡ false → (v : Reference × Monitor) → (fm.get n.watches v.0 ≡ Some v.1)
-          × (v.1.target.node ≡ y) → TrueCause h w v.1.owner v.1.target noconnection
+      tells : (y : Name) → reaches n y ≡ false → (v : Reference × Watch) → (fm.get n.watches v.0 ≡ Some v.1)
+          × (target_node v.1.target ≡ y) → CauseOf h w v.1.owner v.1.target noconnection
       tells y far v f =
-          no_connection w h x n hx gw g v.1.owner v.1.target
-          ((kn w h x n hx gw g).born v.1.owner (g.watching x n v.0 v.1 hx f.0).4) (ap (reaches n) f.1 ∙ far)
+          let u = g.watching x n v.0 v.1 hx f.0 in
+          let q = named_pid v.0 v.1.owner v.1.target h u.1 in
+          subst (λ z. CauseOf h w v.1.owner z noconnection) (sym q.1)
+          (no_connection w h x n hx gw g v.1.owner q.0
+          ((kn w h x n hx gw g).born v.1.owner u.4) (ap (reaches n) (ap target_node (sym q.1) ∙ f.1) ∙ far))
 
   -- ---- an incarnation ends, and another begins
 
@@ -453,7 +458,7 @@ module _ (w : World) (h : History) (x : Name) (n : Node) (hx : node_of w.nodes x
         silent : (k : Reference) → downs_by k e (Reported a []) ≡ []
         silent k = ap (λ b. cond b [] []) (tm (Reported a [])) ∙ refl
 
-        course : (k : Reference) (v : Option Monitor) → fm.get n.watches k ≡ v → Course w h n x e (Reported a []) (at_work m) k
+        course : (k : Reference) (v : Option Watch) → fm.get n.watches k ≡ v → Course w h n x e (Reported a []) (at_work m) k
         course k None j = Stays (unwatched k ∙ sym j) (silent k) (na k (Reported a [])) (nd k (Reported a []))
         course k (Some u) j =
             let v = (kn w h x n hx gw g).born u.owner (g.watching x n k u hx j).4 in

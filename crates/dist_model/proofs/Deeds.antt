@@ -19,7 +19,7 @@ use Rattle.dist_model.proofs.Posts.{NodeKept}
 use Rattle.dist_model.proofs.Parts.{Closed, Rules}
 use Rattle.dist_model.proofs.Routes.{node_of_name}
 use Rattle.dist_model.proofs.Trunks.{Good}
-use Rattle.dist_model.proofs.Told.{Called, Course, Deed, Downs, Drawn, IsFounded, Leaves, Off, Old, Sound, Stays}
+use Rattle.dist_model.proofs.Told.{Called, CauseOf, Course, Deed, Downs, Drawn, IsFounded, Leaves, Off, Old, Sound, Stays}
 use Rattle.dist_model.proofs.MonitorMoves.{Core, Fate, Left, Same, Spent, Turns, core_closed, turns_side, turns_wrote}
 use Rattle.dist_model.proofs.Views.{over}
 use Rattle.dist_model.proofs.Truths.{none_within}
@@ -43,7 +43,10 @@ use Rattle.erl_term.specs.declared.term.Pid.{Pid}
 use Rattle.erl_term.specs.declared.term.Reference.{Reference}
 use Rattle.link_core.specs.News.{noconnection, noproc}
 use Rattle.link_core.specs.declared.end.End.{End}
-use Rattle.monitor_core.specs.declared.monitor.Monitor.{Monitor}
+use Rattle.monitor_core.specs.declared.monitor.Target.{Target}
+use Rattle.monitor_core.specs.declared.monitor.Watch.{Watch}
+use Rattle.monitor_core.specs.declared.monitor.Registration.{Registration}
+use Rattle.dist_model.proofs.Entries.{IsBound}
 
 pub never_same : (m n : Node) → m.mint.name ≡ n.mint.name → m.mint.creation ≡ n.mint.creation → m.mint.pids ≡ n.mint.pids
     → (p : Pid) → is_stranger m p ≡ is_stranger n p
@@ -112,17 +115,17 @@ module _ (w : World) (h : History) (x : Name) (n : Node) (hx : node_of w.nodes x
       → Right w h e p q z
   held_active e p q z l a c = (inl (ap (λ o. end_at o p q) (node_here p (kn.born p l)) ∙ a), c)
 
-  pub were : (k : Reference) (u : Monitor) → fm.get n.registered k ≡ Some u → living n u.target ≡ true
-  were k u j = (g.enrolled x n k u hx j).0
+  pub were : (k : Reference) (u : Registration) → fm.get n.registered k ≡ Some u → (living n u.held ≡ true) × IsBound u
+  were k u j = let v = g.enrolled x n k u hx j in (v.0, v.2)
 
   module _ (e : Event) (xs : List Item) where
-    abbrev pub Tells : Reference → Monitor → Data → Type 0
-    Tells k u z = TrueCause h w u.owner u.target z
+    abbrev pub Tells : Reference → Watch → Data → Type 0
+    Tells k u z = CauseOf h w u.owner u.target z
 
-    abbrev pub Joins : Reference → Monitor → Type 0
-    Joins k u = Monitored k u.owner u.target h
+    abbrev pub Joins : Reference → Registration → Type 0
+    Joins k u = Monitored k u.owner (Target.Pid u.held) h
 
-    abbrev pub Drops : Reference → Monitor → Type 0
+    abbrev pub Drops : Reference → Registration → Type 0
     Drops k u = Off w h k ⊎ (reaches n u.owner.node ≡ false)
 
     abbrev pub Spawned : Pid → Type 0
@@ -172,8 +175,8 @@ module _ (w : World) (h : History) (x : Name) (n : Node) (hx : node_of w.nodes x
           reacted = λ p q z o i k.
               record { truth = a.reacted p q z o i k.truth; core = b.reacted p q z o tt k.core; home = c.reacted p q z o tt k.home };
           finished = λ p z o k. record { truth = a.finished p z o k.truth; core = b.finished p z o k.core; home = c.finished p z o k.home };
-          registers = λ r m o l i k.
-              record { truth = a.registers r m o l i k.truth; core = b.registers r m o l i k.core; home = c.registers r m o l tt k.home };
+          registers = λ r m o l u i k.
+              record { truth = a.registers r m o l u i k.truth; core = b.registers r m o l u i k.core; home = c.registers r m o l u tt k.home };
           unregisters = λ r m o j i k. record
               { truth = a.unregisters r m o j tt k.truth; core = b.unregisters r m o j i k.core; home = c.unregisters r m o j tt k.home };
           ended = λ r m z o j i k.
@@ -216,13 +219,13 @@ module _ (w : World) (h : History) (x : Name) (n : Node) (hx : node_of w.nodes x
         };
         acts = λ p q z c. absurd (none_within (Effect.LinkExit p q z) c);
         watched = λ k u j. j;
-        enrolled = λ k u j. (g.enrolled x n k u hx j).1;
+        enrolled = λ k u j. let v = g.enrolled x n k u hx j in (v.1, v.2);
       };
       core = record {
         turns = record {
           fates = λ k. Same refl refl;
           dead = λ p l. l;
-          enrolled = λ k u j. (were k u j, inl j);
+          enrolled = λ k u j. let v = were k u j in (v.0, v.1, inl j);
           leaving = λ k u j. inl j;
           local = λ f j. j;
           name = refl;
@@ -253,7 +256,7 @@ module _ (w : World) (h : History) (x : Name) (n : Node) (hx : node_of w.nodes x
       carries = carried_by _ _ o (founded_by _ _ _ _ _ _ (λ q z c. c) (λ p q r m. inr m) (λ r c. c)) t.carried;
       homes = All-weaker (TargetsIn Spawned) (TargetsIn (λ q. is_stranger o.node q ≡ false))
           (targets_by Spawned (λ q. is_stranger o.node q ≡ false) (λ q v. nv q ∙ v)) o.node.local k.local;
-      enrolled = λ r m j. let v = u.enrolled r m j in (v.0, joins r m v.1);
+      enrolled = λ r m j. let v = u.enrolled r m j in (v.0, joins r m v.2, v.1);
       owners = λ r m j. u.owners r m j;
       drawn = λ r d. drawn_along n o.node r u.creation (omega (arith, u.references)) d;
       course = λ r. fate r (u.fates r);
@@ -265,7 +268,7 @@ module _ (w : World) (h : History) (x : Name) (n : Node) (hx : node_of w.nodes x
         older : (p : Pid) → over n p ≡ true → over o.node p ≡ true
         older p v = let b = over_parts n p v in over_of o.node p (u.dead p b.0) (nv p ∙ b.1)
 
-        joins : (r : Reference) (m : Monitor) → (fm.get n.registered r ≡ Some m) ⊎ Joins r m → Monitored r m.owner m.target h
+        joins : (r : Reference) (m : Registration) → (fm.get n.registered r ≡ Some m) ⊎ Joins r m → Monitored r m.owner (Target.Pid m.held) h
         joins r m (inl j) = (g.enrolled x n r m hx j).1
         joins r m (inr j) = j
 

@@ -20,7 +20,7 @@ use Rattle.dist_model.specs.declared.report.Answer.{Answer}
 use Rattle.dist_model.specs.Exits.{demonitors, exits, end_process, monitor_exits}
 use Rattle.dist_model.specs.Items.{Item}
 use Rattle.erl_control.specs.Ends.{receiver_of}
-use Rattle.dist_model.specs.Monitoring.{demonitor_by, unwatch, watch}
+use Rattle.dist_model.specs.Monitoring.{demonitor_by, pid_watch, unwatch, watch}
 use Rattle.dist_model.specs.Names.{Name, same_name, same_pid}
 use Rattle.dist_model.specs.Node.{Node, living, is_stranger, reaches, route, ends_of}
 use Rattle.dist_model.specs.Taking.{take_item}
@@ -32,9 +32,9 @@ use Rattle.erl_term.specs.Data.{Data}
 use Rattle.erl_term.specs.declared.refusal.Refusal.{Refusal}
 use Rattle.erl_term.specs.declared.term.Pid.{Pid}
 use Rattle.erl_term.specs.declared.term.Reference.{Reference}
-use Rattle.monitor_core.specs.Monitors.{monitor_of}
 use Rattle.erl_names.specs.Ids.{reference_of}
-use Rattle.monitor_core.specs.declared.monitor.Monitor.{Monitor}
+use Rattle.monitor_core.specs.declared.monitor.Watch.{Watch}
+use Rattle.dist_model.specs.Telling.{object, taken_back}
 
 module _ (n : Node) where
   pub sent_post : (s : Addressed) (o : Work) → Sent n o → Sent n (post s o)
@@ -97,10 +97,10 @@ module _ (n : Node) where
     message = λ p m o h k. silent o (put p m o) (Effect.Put p m) refl refl refl refl k;
     reacted = λ p q x o h k. silent o (report (Effect.LinkExit p q x) o) (Effect.LinkExit p q x) refl refl refl refl k;
     finished = sent_finish;
-    registers = λ r m o l h k. record { sides = k.sides; name = k.name; routed = k.routed; words = k.words };
+    registers = λ r m o l b h k. record { sides = k.sides; name = k.name; routed = k.routed; words = k.words };
     unregisters = λ r m o e h k. record { sides = k.sides; name = k.name; routed = k.routed; words = k.words };
-    ended = λ r m x o e h k. silent o (put m.owner (down_term r m.target x) (unwatch r o))
-        (Effect.Put m.owner (down_term r m.target x)) refl refl refl refl k;
+    ended = λ r m x o e h k. silent o (put m.owner (down_term r (object m.target) x) (unwatch r o))
+        (Effect.Put m.owner (down_term r (object m.target) x)) refl refl refl refl k;
   }
 
   -- an item is taken
@@ -111,7 +111,7 @@ module _ (n : Node) where
     sent = λ p m pay e. silent o (put p m o) (Effect.Put p m) refl refl refl refl k;
     nobody = λ p q r pay e l. tt;
     joins = λ p q r pay e l. tt;
-    drops = λ p q r pay e h. tt;
+    drops = λ p q r pay m e h s. tt;
     tells = λ p q r x pay e h. tt;
   }) k
 
@@ -121,14 +121,14 @@ module _ (n : Node) where
   unwatched : (r : Reference) → Sent n (unwatch r (at_work n))
   unwatched r = record { sides = refl; name = refl; routed = tt; words = tt }
 
-  undone : (v : Monitor) (p : Pid) (r : Reference) → Sent n (post (to_pid v.target (Signal.Demonitor p v.target r)) (unwatch r (at_work n)))
-  undone v p r = sent_post (to_pid v.target (Signal.Demonitor p v.target r)) (unwatch r (at_work n)) (unwatched r)
+  undone : (v : Watch) (p : Pid) (r : Reference) → Sent n (post_all (taken_back p v.target r) (unwatch r (at_work n)))
+  undone v p r = sent_all (taken_back p v.target r) (unwatch r (at_work n)) (unwatched r)
 
-  demonitored : (v : Option Monitor) (p : Pid) (r : Reference) → IfGoes (demonitor_by v p r (at_work n)) (Sent n)
+  demonitored : (v : Option Watch) (p : Pid) (r : Reference) → IfGoes (demonitor_by v p r (at_work n)) (Sent n)
   demonitored None p r = tt
   demonitored (Some v) p r = go (same_pid v.owner p)
     where
-      go : (b : Bool) → IfGoes (cond b (Accepts Answer.Done (post (to_pid v.target (Signal.Demonitor p v.target r)) (unwatch r (at_work n))))
+      go : (b : Bool) → IfGoes (cond b (Accepts Answer.Done (post_all (taken_back p v.target r) (unwatch r (at_work n))))
           (Refuses Refusal.NotTheOwner)) (Sent n)
       go true = undone v p r
       go false = tt
@@ -148,7 +148,7 @@ module _ (n : Node) where
       (λ l. if_not (same_name q.node n.mint.name && is_stranger n q) _ Refusal.Forged (Sent n)
       (if_drawn (id_of n.mint kind.Reference) _ (Sent n) (λ count h.
       either (reaches n q.node) _ _ (sent_post (to_pid q (Signal.Monitor p q (reference_of n.mint count)))
-      (watch (reference_of n.mint count) (monitor_of p q) (draw kind.Reference (at_work n)))
+      (watch (reference_of n.mint count) (pid_watch p q) (draw kind.Reference (at_work n)))
       (record { sides = refl; name = refl; routed = tt; words = tt }))
       (record { sides = refl; name = refl; routed = tt; words = tt }))))
   sent_call (Command.Demonitor p r) = if_cond (living n p) _ Refusal.NoSuchProcess (Sent n) (λ l. demonitored (fm.get n.watches r) p r)

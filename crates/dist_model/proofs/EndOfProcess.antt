@@ -28,7 +28,10 @@ use Rattle.link_core.proofs.Kept.{side_path}
 use Rattle.link_core.specs.News.{Exited, LinkNews}
 use Rattle.link_core.specs.Pair.{Side, farewell, ended}
 use Rattle.link_core.specs.declared.end.End.{End}
-use Rattle.monitor_core.specs.declared.monitor.Monitor.{Monitor}
+use Rattle.monitor_core.specs.declared.monitor.Registration.{Registration}
+use Rattle.monitor_core.specs.declared.monitor.Target.{Target}
+use Rattle.monitor_core.specs.declared.monitor.Watch.{Watch}
+use Rattle.dist_model.specs.Telling.{taken_back, told_end}
 
 pub same_pid_sym : (p q : Pid) → same_pid p q ≡ false → same_pid q p ≡ false
 same_pid_sym p q h = go (same_pid q p) refl
@@ -120,32 +123,51 @@ exits_other p q x r (e ∷ es) h =
     go true = exit_miss p q x e.0.1 r e.1 (ap (λ b. b && same_pid e.0.1 q) h)
     go false = refl
 
-posted_downs : (p q x : Pid) (r : Data) (es : List (Reference × Monitor)) → posted p q (monitor_exits x r es) ≡ []
+-- by whichever target
+posted_told : (p q : Pid) (t : Target) (o : Pid) (k : Reference) (r : Data) (l : List Addressed) → posted p q l ≡ []
+    → posted p q (told_end t o k r ++ l) ≡ []
+posted_told p q (Target.Pid z) o k r l h = h
+posted_told p q (Target.Name n m) o k r l h = h
+
+posted_back : (p q x : Pid) (t : Target) (k : Reference) (l : List Addressed) → posted p q l ≡ [] → posted p q (taken_back x t k ++ l) ≡ []
+posted_back p q x (Target.Pid z) k l h = h
+posted_back p q x (Target.Name n m) k l h = h
+
+suits_told : (p q : Pid) (t : Target) (o : Pid) (k : Reference) (r : Data) (l : List Addressed) → AllSuit p q l
+    → AllSuit p q (told_end t o k r ++ l)
+suits_told p q (Target.Pid z) o k r l h = (inr refl, h)
+suits_told p q (Target.Name n m) o k r l h = h
+
+suits_back : (p q x : Pid) (t : Target) (k : Reference) (l : List Addressed) → AllSuit p q l → AllSuit p q (taken_back x t k ++ l)
+suits_back p q x (Target.Pid z) k l h = (inr refl, h)
+suits_back p q x (Target.Name n m) k l h = h
+
+posted_downs : (p q x : Pid) (r : Data) (es : List (Reference × Registration)) → posted p q (monitor_exits x r es) ≡ []
 posted_downs p q x r [] = refl
 posted_downs p q x r (e ∷ es) =
-    elim (same_pid e.1.target x) as
-    (λ b. posted p q (cond b (to_pid e.1.owner (Signal.MonitorExit x e.1.owner e.0 r) ∷ []) [] ++ monitor_exits x r es) ≡ [])
-    [ true ↦ posted_downs p q x r es | false ↦ posted_downs p q x r es ]
+    elim (same_pid e.1.held x) as
+    (λ b. posted p q (cond b (told_end e.1.target e.1.owner e.0 r) [] ++ monitor_exits x r es) ≡ [])
+    [ true ↦ posted_told p q e.1.target e.1.owner e.0 r (monitor_exits x r es) (posted_downs p q x r es) | false ↦ posted_downs p q x r es ]
 
-posted_unwatches : (p q x : Pid) (es : List (Reference × Monitor)) → posted p q (demonitors x es) ≡ []
+posted_unwatches : (p q x : Pid) (es : List (Reference × Watch)) → posted p q (demonitors x es) ≡ []
 posted_unwatches p q x [] = refl
 posted_unwatches p q x (e ∷ es) =
     elim (same_pid e.1.owner x) as
-    (λ b. posted p q (cond b (to_pid e.1.target (Signal.Demonitor x e.1.target e.0) ∷ []) [] ++ demonitors x es) ≡ [])
-    [ true ↦ posted_unwatches p q x es | false ↦ posted_unwatches p q x es ]
+    (λ b. posted p q (cond b (taken_back x e.1.target e.0) [] ++ demonitors x es) ≡ [])
+    [ true ↦ posted_back p q x e.1.target e.0 (demonitors x es) (posted_unwatches p q x es) | false ↦ posted_unwatches p q x es ]
 
-suits_downs : (p q x : Pid) (r : Data) (es : List (Reference × Monitor)) → AllSuit p q (monitor_exits x r es)
+suits_downs : (p q x : Pid) (r : Data) (es : List (Reference × Registration)) → AllSuit p q (monitor_exits x r es)
 suits_downs p q x r [] = tt
 suits_downs p q x r (e ∷ es) =
-    elim (same_pid e.1.target x) as
-    (λ b. AllSuit p q (cond b (to_pid e.1.owner (Signal.MonitorExit x e.1.owner e.0 r) ∷ []) [] ++ monitor_exits x r es))
-    [ true ↦ (inr refl, suits_downs p q x r es) | false ↦ suits_downs p q x r es ]
+    elim (same_pid e.1.held x) as
+    (λ b. AllSuit p q (cond b (told_end e.1.target e.1.owner e.0 r) [] ++ monitor_exits x r es))
+    [ true ↦ suits_told p q e.1.target e.1.owner e.0 r (monitor_exits x r es) (suits_downs p q x r es) | false ↦ suits_downs p q x r es ]
 
-suits_unwatches : (p q x : Pid) (es : List (Reference × Monitor)) → AllSuit p q (demonitors x es)
+suits_unwatches : (p q x : Pid) (es : List (Reference × Watch)) → AllSuit p q (demonitors x es)
 suits_unwatches p q x [] = tt
 suits_unwatches p q x (e ∷ es) =
-    elim (same_pid e.1.owner x) as (λ b. AllSuit p q (cond b (to_pid e.1.target (Signal.Demonitor x e.1.target e.0) ∷ []) [] ++ demonitors x es))
-    [ true ↦ (inr refl, suits_unwatches p q x es) | false ↦ suits_unwatches p q x es ]
+    elim (same_pid e.1.owner x) as (λ b. AllSuit p q (cond b (taken_back x e.1.target e.0) [] ++ demonitors x es))
+    [ true ↦ suits_back p q x e.1.target e.0 (demonitors x es) (suits_unwatches p q x es) | false ↦ suits_unwatches p q x es ]
 
 suits_exit : (p q x y : Pid) (r : Data) (e : End) → AllSuit p q (exit_for x r y e)
 suits_exit p q x y r End.Active = (linking_suits x y p q (Exited r) false, tt)

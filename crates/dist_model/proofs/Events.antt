@@ -19,7 +19,7 @@ use Rattle.dist_model.proofs.Keys.{same_pid_true}
 use Rattle.dist_model.proofs.Parts.{call_kept}
 use Rattle.dist_model.proofs.Sides.{side_at}
 use Rattle.dist_model.proofs.Trunks.{Good, has}
-use Rattle.dist_model.proofs.Told.{Begins, Called, Deed, Drawn, IsFounded, Off, Old, Revoked, Sound, Stays}
+use Rattle.dist_model.proofs.Told.{Begins, Called, Deed, Drawn, IsFounded, Off, Old, Revoked, Sound, Stays, named_pid}
 use Rattle.dist_model.proofs.Lands.{Lands, down, down_said, is_end, local_grows, quietly_downs}
 use Rattle.dist_model.proofs.Truths.{and_second}
 use Rattle.dist_model.proofs.Routes.{at_place}
@@ -31,26 +31,28 @@ use Rattle.dist_model.specs.declared.command.Command.{Command}
 use Rattle.dist_model.specs.Downs.{Monitored, down_in, downs_in, is_answered, is_demonitored, same_reference, takes_message}
 use Rattle.dist_model.specs.Histories.{History}
 use Rattle.dist_model.specs.Items.{Item}
-use Rattle.dist_model.specs.Monitoring.{demonitor_by, monitor, unwatch, watch}
+use Rattle.dist_model.specs.Monitoring.{demonitor_by, monitor, pid_watch, unwatch, watch}
 use Rattle.dist_model.specs.Names.{Name, same_name, same_pid}
 use Rattle.dist_model.specs.Node.{Node, is_living_life, living, is_stranger, reaches, Life, Living}
 use Rattle.dist_model.specs.Sides.{TrunkSide, is_over}
-use Rattle.dist_model.specs.Work.{Work, at_work, delivered, draw, post, put, spelled, to_pid}
+use Rattle.dist_model.specs.Work.{Work, at_work, delivered, draw, post, post_all, put, spelled, to_pid}
 use Rattle.dist_model.specs.declared.report.Effect.{Effect}
 use Rattle.dist_model.specs.World.{Call, Event, Reported, World, node_of}
 use Rattle.erl_control.specs.declared.signal.Signal.{Signal}
 use Rattle.erl_names.specs.Ids.{pid_of, reference_of}
 use Rattle.erl_names.specs.Minted.{Minted, id_of, last, risen}
 use Rattle.erl_names.specs.declared.trunk.TrunkId.{TrunkId}
-use Rattle.erl_term.specs.Data.{Data}
+use Rattle.erl_term.specs.Data.{Data, pid}
 use Rattle.erl_term.specs.declared.refusal.Refusal.{Refusal}
 use Rattle.erl_term.specs.declared.term.Pid.{Pid}
 use Rattle.erl_term.specs.declared.term.Reference.{Reference}
 use Rattle.exit_core.specs.Messages.{down_term}
 use Rattle.link_core.specs.News.{noconnection}
 use Rattle.erl_term.proofs.Order.{reference_cmp_total}
-use Rattle.monitor_core.specs.Monitors.{monitor_of}
-use Rattle.monitor_core.specs.declared.monitor.Monitor.{Monitor}
+use Rattle.monitor_core.specs.declared.monitor.Target.{Target}
+use Rattle.monitor_core.specs.declared.monitor.Watch.{Watch}
+use Rattle.monitor_core.specs.declared.monitor.Registration.{Registration}
+use Rattle.dist_model.specs.Telling.{taken_back}
 
 -- an outcome that goes through, with its answer
 abbrev pub AllGo : Outcome → (Answer → Work → Type 0) → Type 0
@@ -95,7 +97,7 @@ module _ (w : World) (h : History) (x : Name) (n : Node) (hx : node_of w.nodes x
     pub acts : (p q : Pid) (z : Data) → Contains o.effects (Effect.LinkExit p q z) → Right w h e p q z
     pub aging : Aging n o.node
     pub local : (f : Item → Bool) → has f xs ≡ true → (has f o.node.local ≡ true) ⊎ ((k : Reference) → fm.get o.node.watches k ≡ None)
-    pub leaving : (k : Reference) (u : Monitor) → fm.get n.registered k ≡ Some u
+    pub leaving : (k : Reference) (u : Registration) → fm.get n.registered k ≡ Some u
         → (fm.get o.node.registered k ≡ Some u)
         ⊎ ((Lands (is_end k) n u.owner.node o ⊎ (Off w h k ⊎ (reaches n u.owner.node ≡ false))) ⊎ AllOver o.node)
 
@@ -117,7 +119,7 @@ module _ (w : World) (h : History) (x : Name) (n : Node) (hx : node_of w.nodes x
         lands true f y l = (l.0, λ t i c. ap (λ z. has f (at_place t y z)) (sym (sent_mere o.effects)) ∙ l.1 t i c)
         lands false f y l = l
 
-        leave : (r : Reference) (m : Monitor) → (fm.get o.node.registered r ≡ Some m)
+        leave : (r : Reference) (m : Registration) → (fm.get o.node.registered r ≡ Some m)
             ⊎ (Lands (is_end r) n m.owner.node (counted w h x n hx gw g e xs a o) ⊎ (Off w h r ⊎ (reaches n m.owner.node ≡ false)))
             → (fm.get o.node.registered r ≡ Some m)
             ⊎ ((Lands (is_end r) n m.owner.node o ⊎ (Off w h r ⊎ (reaches n m.owner.node ≡ false))) ⊎ AllOver o.node)
@@ -193,7 +195,7 @@ module _ (w : World) (h : History) (x : Name) (n : Node) (hx : node_of w.nodes x
           };
           homes = All-weaker (TargetsIn (λ q. is_stranger n q ≡ false)) (TargetsIn (λ q. is_stranger o.node q ≡ false))
               (targets_by _ _ (λ q v. spawned_stays_born n q v)) n.local (g.homes x n hx);
-          enrolled = λ k u j. let v = g.enrolled x n k u hx j in (spawned_stays_living n u.target v.0, v.1);
+          enrolled = λ k u j. let v = g.enrolled x n k u hx j in (spawned_stays_living n u.held v.0, v.1, v.2);
           owners = λ k u j. spawned_stays_living n u.owner (g.watching x n k u hx j).4;
           drawn = λ k d. d;
           course = λ k. Stays refl refl refl refl;
@@ -253,7 +255,7 @@ module _ (w : World) (h : History) (x : Name) (n : Node) (hx : node_of w.nodes x
     Asks o = Done (Call x (Command.Monitor p q)) n.local (Answer.Reference (reference_of n.mint id)) o
 
     old_items : (o : Work) (i : Item) → IsFounded w h i
-        → Founded (EndedBefore n (Old w h) (λ a b z. Unit {0}) (Called h) (Off w h) o) (λ a b k. Monitored k a b ((record {
+        → Founded (EndedBefore n (Old w h) (λ a b z. Unit {0}) (Called h) (Off w h) o) (λ a b k. Monitored k a (Target.Pid b) ((record {
           event = Call x
               (Command.Monitor p q);
           report = Reported
@@ -262,9 +264,9 @@ module _ (w : World) (h : History) (x : Name) (n : Node) (hx : node_of w.nodes x
     old_items o = founded_by _ _ _ _ _ _ (λ a z c. inl c) (λ a b k m. inr m) (λ k c. inl c)
 
     reaching : Asks (post (to_pid q (Signal.Monitor p q (reference_of n.mint id)))
-        (watch (reference_of n.mint id) (monitor_of p q) (draw kind.Reference (at_work n))))
+        (watch (reference_of n.mint id) (pid_watch p q) (draw kind.Reference (at_work n))))
     reaching =
-        let o1 = watch (reference_of n.mint id) (monitor_of p q) (draw kind.Reference (at_work n)) in
+        let o1 = watch (reference_of n.mint id) (pid_watch p q) (draw kind.Reference (at_work n)) in
         let s = to_pid q (Signal.Monitor p q (reference_of n.mint id)) in
         let o = post s o1 in
         let quietly = quietly_post [] q.node (spelled o1.node s) o1 Nothing in
@@ -276,8 +278,8 @@ module _ (w : World) (h : History) (x : Name) (n : Node) (hx : node_of w.nodes x
         λ a. posts_keep (λ m. is_stranger m a) (λ m z. refl) q.node (spelled o1.node s) o1 in
         let sd : o.node.sides ≡ n.sides = posts_keep (λ m. m.sides) (λ m z. refl) q.node (spelled o1.node s) o1 in
         let got : (k : Reference) → fm.get o.node.watches k
-        ≡ cond (same_reference k (reference_of n.mint id)) (Some (monitor_of p q)) (fm.get n.watches k) = λ k. ap (λ z. fm.get z k) ws
-        ∙ fm.get-insert reference_cmp_total n.watches (reference_of n.mint id) (monitor_of p q) k in
+        ≡ cond (same_reference k (reference_of n.mint id)) (Some (pid_watch p q)) (fm.get n.watches k) = λ k. ap (λ z. fm.get z k) ws
+        ∙ fm.get-insert reference_cmp_total n.watches (reference_of n.mint id) (pid_watch p q) k in
         let hp : Homed n (λ a. is_stranger n a ≡ false) o =
         homed_post n (λ a. is_stranger n a ≡ false) s o1
         (λ i. and_second (same_name q.node n.mint.name) (is_stranger n q) known i)
@@ -285,7 +287,7 @@ module _ (w : World) (h : History) (x : Name) (n : Node) (hx : node_of w.nodes x
         let dn : (k : Reference) → downs_in k o.effects ≡ [] = λ k. quietly_downs k [] o.effects quietly in
         let cp =
         carried_post
-        (Founded (EndedBefore n (Old w h) (λ a b z. Unit {0}) (Called h) (Off w h) o) (λ a b k. Monitored k a b ((record {
+        (Founded (EndedBefore n (Old w h) (λ a b z. Unit {0}) (Called h) (Off w h) o) (λ a b k. Monitored k a (Target.Pid b) ((record {
           event = Call
               x (Command.Monitor p q);
           report = Reported (Answer.Reference (reference_of n.mint id))
@@ -301,15 +303,15 @@ module _ (w : World) (h : History) (x : Name) (n : Node) (hx : node_of w.nodes x
             carries = cp;
             homes = All-weaker (TargetsIn (λ a. is_stranger n a ≡ false)) (TargetsIn (λ a. is_stranger o.node a ≡ false))
                 (targets_by _ _ (λ a v. nv a ∙ v)) o.node.local hp.local;
-            enrolled = λ k u j. let v = g.enrolled x n k u hx (ap (λ z. fm.get z k) (sym rs) ∙ j) in (lv u.target ∙ v.0, v.1);
+            enrolled = λ k u j. let v = g.enrolled x n k u hx (ap (λ z. fm.get z k) (sym rs) ∙ j) in (lv u.held ∙ v.0, v.1, v.2);
             owners = λ k u j. lv u.owner ∙ owner k u (same_reference k (reference_of n.mint id)) (sym (got k) ∙ j);
             drawn = λ k d. subst (λ m. Drawn (record n { mint = m }) k) (sym mt) (stays_drawn k d);
             course = λ k. by_test _ (same_reference k (reference_of n.mint id))
                 (λ i. Begins p q asked (answered k true o.effects i) refl
                 (ap (λ (z : Reference). z.node) (same_reference_true k (reference_of n.mint id) i) ∙ nm w h x n hx gw g)
                 (undrawn k i) (subst (λ m. Drawn (record n { mint = m }) k) (sym mt) (now_drawn k i)) (lv p ∙ l)
-                (inl (got k ∙ ap (λ b. cond b (Some (monitor_of p q)) (fm.get n.watches k)) i, dn k)))
-                (λ i. Stays (got k ∙ ap (λ b. cond b (Some (monitor_of p q)) (fm.get n.watches k)) i) (dn k)
+                (inl (got k ∙ ap (λ b. cond b (Some (pid_watch p q)) (fm.get n.watches k)) i, dn k)))
+                (λ i. Stays (got k ∙ ap (λ b. cond b (Some (pid_watch p q)) (fm.get n.watches k)) i) (dn k)
                 (answered k false o.effects i) refl);
           };
           acts = λ a b z c. absurd (quiet [] a b z refl (quietly_acts [] o.effects quietly a b z c));
@@ -318,24 +320,24 @@ module _ (w : World) (h : History) (x : Name) (n : Node) (hx : node_of w.nodes x
           leaving = λ k u j. inl (ap (λ z. fm.get z k) rs ∙ j);
         }
       where
-        owner : (k : Reference) (u : Monitor) (b : Bool) → cond b (Some (monitor_of p q)) (fm.get n.watches k) ≡ Some u
+        owner : (k : Reference) (u : Watch) (b : Bool) → cond b (Some (pid_watch p q)) (fm.get n.watches k) ≡ Some u
             → living n u.owner ≡ true
-        owner k u true j = subst (λ (v : Monitor). living n v.owner ≡ true) (same_Some (monitor_of p q) u j) l
+        owner k u true j = subst (λ (v : Watch). living n v.owner ≡ true) (same_Some (pid_watch p q) u j) l
         owner k u false j = (g.watching x n k u hx j).4
 
     unreaching : reaches n q.node ≡ false
-        → Asks (put p (down_term (reference_of n.mint id) q noconnection) (draw kind.Reference (at_work n)))
+        → Asks (put p (down_term (reference_of n.mint id) (pid q) noconnection) (draw kind.Reference (at_work n)))
     unreaching far =
         let o1 = draw kind.Reference (at_work n) in
-        let o = put p (down_term (reference_of n.mint id) q noconnection) o1 in
+        let o = put p (down_term (reference_of n.mint id) (pid q) noconnection) o1 in
         let lv : (a : Pid) → living o.node a ≡ living n a =
         λ a. set_life_living n.lives p
-        (delivered (fm.get n.lives p) (down_term (reference_of n.mint id) q noconnection)) a
+        (delivered (fm.get n.lives p) (down_term (reference_of n.mint id) (pid q) noconnection)) a
         (λ i. delivered_living (fm.get n.lives p) ∙ ap (living n) (sym (same_pid_true a p i))) in
         let dn : (k : Reference) → downs_in k o.effects
-        ≡ cond (same_reference k (reference_of n.mint id)) (down (monitor_of p q) noconnection ∷ []) [] = λ k.
-        append-nil (down_in k p (down_term (reference_of n.mint id) q noconnection))
-        ∙ down_said k (reference_of n.mint id) p q noconnection in
+        ≡ cond (same_reference k (reference_of n.mint id)) (down (pid_watch p q) noconnection ∷ []) [] = λ k.
+        append-nil (down_in k p (down_term (reference_of n.mint id) (pid q) noconnection))
+        ∙ down_said k (reference_of n.mint id) p (Target.Pid q) noconnection in
         record {
           deed = record {
             name = nm w h x n hx gw g;
@@ -343,7 +345,7 @@ module _ (w : World) (h : History) (x : Name) (n : Node) (hx : node_of w.nodes x
             grows = λ a v. let b = over_parts n a v in over_of o.node a (lv a ∙ b.0) b.1;
             carries = record { local = All-weaker (IsFounded w h) _ (old_items o) n.local (g.locals x n hx); sent = All-nil _ };
             homes = g.homes x n hx;
-            enrolled = λ k u j. let v = g.enrolled x n k u hx j in (lv u.target ∙ v.0, v.1);
+            enrolled = λ k u j. let v = g.enrolled x n k u hx j in (lv u.held ∙ v.0, v.1, v.2);
             owners = λ k u j. lv u.owner ∙ (g.watching x n k u hx j).4;
             drawn = λ k d. stays_drawn k d;
             course = λ k. by_test _ (same_reference k (reference_of n.mint id))
@@ -354,25 +356,25 @@ module _ (w : World) (h : History) (x : Name) (n : Node) (hx : node_of w.nodes x
                   refl,
                   noconnection,
                   no_connection w h x n hx gw g p q born far,
-                  dn k ∙ ap (λ b. cond b (down (monitor_of p q) noconnection ∷ []) []) i,
+                  dn k ∙ ap (λ b. cond b (down (pid_watch p q) noconnection ∷ []) []) i,
                 )))
-                (λ i. Stays refl (dn k ∙ ap (λ b. cond b (down (monitor_of p q) noconnection ∷ []) []) i)
+                (λ i. Stays refl (dn k ∙ ap (λ b. cond b (down (pid_watch p q) noconnection ∷ []) []) i)
                 (answered k false o.effects i) refl);
           };
           acts = λ a b z c. absurd (no_act a b z
-              (Contains-push_cases [] (Effect.Put p (down_term (reference_of n.mint id) q noconnection)) (Effect.LinkExit a b z) c));
+              (Contains-push_cases [] (Effect.Put p (down_term (reference_of n.mint id) (pid q) noconnection)) (Effect.LinkExit a b z) c));
           aging = ageless n o.node refl;
           local = λ f j. inl j;
           leaving = λ k u j. inl j;
         }
       where
         delivered_living : (v : Option Life)
-            → is_living_life (delivered v (down_term (reference_of n.mint id) q noconnection)) ≡ is_living_life v
+            → is_living_life (delivered v (down_term (reference_of n.mint id) (pid q) noconnection)) ≡ is_living_life v
         delivered_living (Some (Living t b)) = refl
         delivered_living _ = refl
 
         no_act : (a b : Pid) (z : Data) → Contains {X = Effect Item} [] (Effect.LinkExit a b z)
-            ⊎ (◌≡◌ {A = Effect Item} (Effect.Put p (down_term (reference_of n.mint id) q noconnection)) (Effect.LinkExit a b z))
+            ⊎ (◌≡◌ {A = Effect Item} (Effect.Put p (down_term (reference_of n.mint id) (pid q) noconnection)) (Effect.LinkExit a b z))
             → ⊥
         no_act a b z (inl c) = quiet [] a b z refl c
         no_act a b z (inr c) = cc
@@ -381,74 +383,81 @@ module _ (w : World) (h : History) (x : Name) (n : Node) (hx : node_of w.nodes x
     monitor_done = go (reaches n q.node) refl
       where
         go : (b : Bool) → reaches n q.node ≡ b → Asks (cond b (post (to_pid q (Signal.Monitor p q (reference_of n.mint id)))
-            (watch (reference_of n.mint id) (monitor_of p q) (draw kind.Reference (at_work n)))) (put p
-            (down_term (reference_of n.mint id) q noconnection) (draw kind.Reference (at_work n))))
+            (watch (reference_of n.mint id) (pid_watch p q) (draw kind.Reference (at_work n)))) (put p
+            (down_term (reference_of n.mint id) (pid q) noconnection) (draw kind.Reference (at_work n))))
         go true i = reaching
         go false i = unreaching i
 
   -- ---- a process takes a monitor back
 
-  demonitor_done : (p : Pid) (r : Reference) (v : Option Monitor) → fm.get n.watches r ≡ v
+  demonitor_done : (p : Pid) (r : Reference) (v : Option Watch) → fm.get n.watches r ≡ v
       → AllGo (demonitor_by v p r (at_work n)) (Done (Call x (Command.Demonitor p r)) n.local)
   demonitor_done p r None i = tt
-  demonitor_done p r (Some m) i = go_cond (same_pid m.owner p) _ Refusal.NotTheOwner (Done (Call x (Command.Demonitor p r)) n.local) (λ own.
-      let o1 = unwatch r (at_work n) in
-      let s = to_pid m.target (Signal.Demonitor p m.target r) in
-      let o = post s o1 in
-      let e = Call x (Command.Demonitor p r) in
-      let quietly = quietly_post [] m.target.node (spelled o1.node s) o1 Nothing in
-      let ws : o.node.watches ≡ o1.node.watches = posts_keep (λ z. z.watches) (λ z y. refl) m.target.node (spelled o1.node s) o1 in
-      let mt : o.node.mint ≡ n.mint = posts_keep (λ z. z.mint) (λ z y. refl) m.target.node (spelled o1.node s) o1 in
-      let rs : o.node.registered ≡ n.registered = posts_keep (λ z. z.registered) (λ z y. refl) m.target.node (spelled o1.node s) o1 in
-      let lv : (a : Pid) → living o.node a ≡ living n a =
-      λ a. posts_keep (λ z. living z a) (λ z y. refl) m.target.node (spelled o1.node s) o1 in
-      let nv : (a : Pid) → is_stranger o.node a ≡ is_stranger n a =
-      λ a. posts_keep (λ z. is_stranger z a) (λ z y. refl) m.target.node (spelled o1.node s) o1 in
-      let sd : o.node.sides ≡ n.sides = posts_keep (λ z. z.sides) (λ z y. refl) m.target.node (spelled o1.node s) o1 in
-      let got : (k : Reference) → fm.get o.node.watches k ≡ cond (same_reference k r) None (fm.get n.watches k) =
-      λ k. ap (λ z. fm.get z k) ws ∙ fm.get-remove reference_cmp_total n.watches r k in
-      let hp : Homed n (λ a. is_stranger n a ≡ false) o =
-      homed_post n (λ a. is_stranger n a ≡ false) s o1 (λ j. tt) (record { local = g.homes x n hx; name = refl }) in
-      let dn : (k : Reference) → downs_in k o.effects ≡ [] = λ k. quietly_downs k [] o.effects quietly in
-      let cp =
-      carried_post
-      (Founded (EndedBefore n (Old w h) (λ a b z. Unit {0}) (Called h) (Off w h) o) (λ a b k. Monitored k a b ((record {
-        event = Call
-            x (Command.Demonitor p r);
-        report = Reported Rattle.dist_model.specs.declared.report.Answer.TheVariants.Done
-            o.effects;
-      }) ∷ h)) (OffNow n (Old w h) (λ a b z. Unit {0}) (Called h) (Off w h) o))
-      m.target.node (spelled o1.node s) o1 (inr ((m, i), got r ∙ ap (λ b. cond b None (fm.get n.watches r)) (same_reference_refl r)))
-      (record {
-        local = All-weaker (IsFounded w h) _
-            (founded_by _ _ _ _ _ _ (λ a z c. inl c) (λ a b k c. inr c) (λ k c. inl c)) n.local (g.locals x n hx);
-        sent = All-nil _;
-      }) in
-      record {
-        deed = record {
-          name = ap (λ (z : Minted). z.name) mt ∙ nm w h x n hx gw g;
-          nevers = λ a v. nv a ∙ v;
-          grows = λ a v. let b = over_parts n a v in over_of o.node a (lv a ∙ b.0) (nv a ∙ b.1);
-          carries = cp;
-          homes = All-weaker (TargetsIn (λ a. is_stranger n a ≡ false)) (TargetsIn (λ a. is_stranger o.node a ≡ false))
-              (targets_by _ _ (λ a v. nv a ∙ v)) o.node.local hp.local;
-          enrolled = λ k u j. let v = g.enrolled x n k u hx (ap (λ z. fm.get z k) (sym rs) ∙ j) in (lv u.target ∙ v.0, v.1);
-          owners = λ k u j. lv u.owner ∙ (g.watching x n k u hx (left k u (same_reference k r) (sym (got k) ∙ j))).4;
-          drawn = λ k d. subst (λ z. Drawn (record n { mint = z }) k) (sym mt) d;
-          course = λ k. by_test _ (same_reference k r)
-              (λ j. Revoked m (ap (fm.get n.watches) (same_reference_true k r j) ∙ i)
-              (got k ∙ ap (λ b. cond b None (fm.get n.watches k)) j) (dn k) refl j)
-              (λ j. Stays (got k ∙ ap (λ b. cond b None (fm.get n.watches k)) j) (dn k) refl j);
-        };
-        acts = λ a b z c. absurd (quiet [] a b z refl (quietly_acts [] o.effects quietly a b z c));
-        aging = ageless n o.node sd;
-        local = λ f j. inl (local_grows f m.target.node (spelled o1.node s) o1 j);
-        leaving = λ k u j. inl (ap (λ z. fm.get z k) rs ∙ j);
-      })
+  demonitor_done p r (Some m) i =
+      let t = named_pid r m.owner m.target h (g.watching x n r m hx i).1 in
+      subst (λ z. AllGo (cond (same_pid m.owner p) (Accepts Answer.Done (post_all (taken_back p z r) (unwatch r (at_work n))))
+      (Refuses Refusal.NotTheOwner)) (Done (Call x (Command.Demonitor p r)) n.local)) (sym t.1) (of_target t.0)
     where
-      left : (k : Reference) (u : Monitor) (b : Bool) → cond b None (fm.get n.watches k) ≡ Some u → fm.get n.watches k ≡ Some u
+      left : (k : Reference) (u : Watch) (b : Bool) → cond b None (fm.get n.watches k) ≡ Some u → fm.get n.watches k ≡ Some u
       left k u true j = absurd (none-some u j)
       left k u false j = j
+
+      of_target : (q : Pid) → AllGo (cond (same_pid m.owner p) (Accepts Answer.Done (post_all (taken_back p (Target.Pid q) r)
+          (unwatch r (at_work n)))) (Refuses Refusal.NotTheOwner)) (Done (Call x (Command.Demonitor p r)) n.local)
+      of_target q = go_cond (same_pid m.owner p) _ Refusal.NotTheOwner (Done (Call x (Command.Demonitor p r)) n.local) (λ own.
+          let o1 = unwatch r (at_work n) in
+          let s = to_pid q (Signal.Demonitor p q r) in
+          let o = post s o1 in
+          let e = Call x (Command.Demonitor p r) in
+          let quietly = quietly_post [] q.node (spelled o1.node s) o1 Nothing in
+          let ws : o.node.watches ≡ o1.node.watches = posts_keep (λ z. z.watches) (λ z y. refl) q.node (spelled o1.node s) o1 in
+          let mt : o.node.mint ≡ n.mint = posts_keep (λ z. z.mint) (λ z y. refl) q.node (spelled o1.node s) o1 in
+          let rs : o.node.registered ≡ n.registered = posts_keep (λ z. z.registered) (λ z y. refl) q.node (spelled o1.node s) o1 in
+          let lv : (a : Pid) → living o.node a ≡ living n a =
+          λ a. posts_keep (λ z. living z a) (λ z y. refl) q.node (spelled o1.node s) o1 in
+          let nv : (a : Pid) → is_stranger o.node a ≡ is_stranger n a =
+          λ a. posts_keep (λ z. is_stranger z a) (λ z y. refl) q.node (spelled o1.node s) o1 in
+          let sd : o.node.sides ≡ n.sides = posts_keep (λ z. z.sides) (λ z y. refl) q.node (spelled o1.node s) o1 in
+          let got : (k : Reference) → fm.get o.node.watches k ≡ cond (same_reference k r) None (fm.get n.watches k) =
+          λ k. ap (λ z. fm.get z k) ws ∙ fm.get-remove reference_cmp_total n.watches r k in
+          let hp : Homed n (λ a. is_stranger n a ≡ false) o =
+          homed_post n (λ a. is_stranger n a ≡ false) s o1 (λ j. tt) (record { local = g.homes x n hx; name = refl }) in
+          let dn : (k : Reference) → downs_in k o.effects ≡ [] = λ k. quietly_downs k [] o.effects quietly in
+          let cp =
+          carried_post
+          (Founded (EndedBefore n (Old w h) (λ a b z. Unit {0}) (Called h) (Off w h) o) (λ a b k. Monitored k a (Target.Pid b) ((record {
+            event = Call
+                x (Command.Demonitor p r);
+            report = Reported Rattle.dist_model.specs.declared.report.Answer.TheVariants.Done
+                o.effects;
+          }) ∷ h)) (OffNow n (Old w h) (λ a b z. Unit {0}) (Called h) (Off w h) o))
+          q.node (spelled o1.node s) o1 (inr ((m, i), got r ∙ ap (λ b. cond b None (fm.get n.watches r)) (same_reference_refl r)))
+          (record {
+            local = All-weaker (IsFounded w h) _
+                (founded_by _ _ _ _ _ _ (λ a z c. inl c) (λ a b k c. inr c) (λ k c. inl c)) n.local (g.locals x n hx);
+            sent = All-nil _;
+          }) in
+          record {
+            deed = record {
+              name = ap (λ (z : Minted). z.name) mt ∙ nm w h x n hx gw g;
+              nevers = λ a v. nv a ∙ v;
+              grows = λ a v. let b = over_parts n a v in over_of o.node a (lv a ∙ b.0) (nv a ∙ b.1);
+              carries = cp;
+              homes = All-weaker (TargetsIn (λ a. is_stranger n a ≡ false)) (TargetsIn (λ a. is_stranger o.node a ≡ false))
+                  (targets_by _ _ (λ a v. nv a ∙ v)) o.node.local hp.local;
+              enrolled = λ k u j. let v = g.enrolled x n k u hx (ap (λ z. fm.get z k) (sym rs) ∙ j) in (lv u.held ∙ v.0, v.1, v.2);
+              owners = λ k u j. lv u.owner ∙ (g.watching x n k u hx (left k u (same_reference k r) (sym (got k) ∙ j))).4;
+              drawn = λ k d. subst (λ z. Drawn (record n { mint = z }) k) (sym mt) d;
+              course = λ k. by_test _ (same_reference k r)
+                  (λ j. Revoked m (ap (fm.get n.watches) (same_reference_true k r j) ∙ i)
+                  (got k ∙ ap (λ b. cond b None (fm.get n.watches k)) j) (dn k) refl j)
+                  (λ j. Stays (got k ∙ ap (λ b. cond b None (fm.get n.watches k)) j) (dn k) refl j);
+            };
+            acts = λ a b z c. absurd (quiet [] a b z refl (quietly_acts [] o.effects quietly a b z c));
+            aging = ageless n o.node sd;
+            local = λ f j. inl (local_grows f q.node (spelled o1.node s) o1 j);
+            leaving = λ k u j. inl (ap (λ z. fm.get z k) rs ∙ j);
+          })
 
   -- ---- any call
 

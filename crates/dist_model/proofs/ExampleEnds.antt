@@ -10,7 +10,7 @@ use Rattle.dist_model.specs.Causes.{Reacts}
 use Rattle.dist_model.specs.declared.report.Answer.{Answer}
 use Rattle.dist_model.specs.declared.command.Command.{Command}
 use Rattle.dist_model.specs.Downs.{downs, downs_by}
-use Rattle.dist_model.specs.Exits.{without_owner, without_target}
+use Rattle.dist_model.specs.Exits.{without_held, without_owner}
 use Rattle.erl_control.specs.Fits.{fits}
 use Rattle.dist_model.specs.Histories.{history}
 use Rattle.dist_model.specs.Items.{Item, Signalled}
@@ -25,7 +25,9 @@ use Rattle.erl_control.specs.declared.signal.Signal.{Signal}
 use Rattle.erl_term.specs.Data.{Data}
 use Rattle.erl_term.specs.Order.{pid_cmp}
 use Rattle.exit_core.specs.Messages.{exit_term}
-use Rattle.monitor_core.specs.Monitors.{MonitorMap, monitor_of}
+use Rattle.dist_model.specs.Monitoring.{registration_of}
+use Rattle.monitor_core.specs.Monitors.{RegistrationMap, WatchMap, watch_of}
+use Rattle.monitor_core.specs.declared.monitor.Target.{Target}
 use Rattle.dist_model.proofs.ExampleWorlds.{node, of_worlds, told_once, world}
 
 module _ (cookie : List ℕ) (own other : ℕ) where
@@ -40,8 +42,8 @@ module _ (cookie : List ℕ) (own other : ℕ) where
         (sides_of_second_1 cookie own other) [])
         (lists9 cookie own other)
 
-    abbrev monitor_watches_of_first_1 : MonitorMap
-    monitor_watches_of_first_1 = fm.insert fm.empty reference (monitor_of here there)
+    abbrev monitor_watches_of_first_1 : WatchMap
+    monitor_watches_of_first_1 = fm.insert fm.empty reference (watch_of here (Target.Pid there))
 
     abbrev monitor_lists_1 : FinMap place_cmp (List Item)
     monitor_lists_1 = fm.insert (lists9 cookie own other) (trunk 1, second) (Signalled (Signal.Monitor here there reference) false ∷ [])
@@ -60,8 +62,8 @@ module _ (cookie : List ℕ) (own other : ℕ) where
     abbrev monitor_lists_2 : FinMap place_cmp (List Item)
     monitor_lists_2 = fm.insert monitor_lists_1 (trunk 1, second) []
 
-    abbrev monitor_registered_of_second_1 : MonitorMap
-    monitor_registered_of_second_1 = fm.insert fm.empty reference (monitor_of here there)
+    abbrev monitor_registered_of_second_1 : RegistrationMap
+    monitor_registered_of_second_1 = fm.insert fm.empty reference (registration_of here there)
 
     abbrev monitor_world_2 : World
     monitor_world_2 = world
@@ -85,7 +87,7 @@ module _ (cookie : List ℕ) (own other : ℕ) where
         (node cookie first 1 true 1 1 0 1 (lives_of_first_1 cookie own other) fm.empty monitor_watches_of_first_1 fm.empty
         (sides_of_first_3 cookie own other) [])
         (node cookie second 1 true 1 0 0 0 monitor_lives_of_second_1 (fm.retain_keys fm.empty (λ pair. not (same_pid pair.0 there)))
-        (without_owner fm.empty there) (without_target monitor_registered_of_second_1 there) (sides_of_second_1 cookie own other) [])
+        (without_owner fm.empty there) (without_held monitor_registered_of_second_1 there) (sides_of_second_1 cookie own other) [])
         monitor_lists_3
 
     monitor_step_2 : (step monitor_world_2 (Call second (Command.ExitSelf there reason))).world ≡ monitor_world_3
@@ -99,12 +101,12 @@ module _ (cookie : List ℕ) (own other : ℕ) where
 
     monitor_down : downs_by reference (Arrive (trunk 1) first 0)
         ((step (run (connected_over_a_trunk own other ++ monitoring reason) (two_nodes cookie)) (Arrive (trunk 1) first 0)).report) ≡
-        (record { owner = here; target = there; info = reason }) ∷ []
+        (record { owner = here; target = Target.Pid there; info = reason }) ∷ []
     monitor_down = ap (λ w. downs_by reference (Arrive (trunk 1) first 0) ((step w (Arrive (trunk 1) first 0)).report)) monitor_is
         ∙ simp of_worlds refl
 
     pub monitor_tells : downs reference (history (monitored_to_the_end own other reason) (two_nodes cookie)) ≡
-        (record { owner = here; target = there; info = reason }) ∷ []
+        (record { owner = here; target = Target.Pid there; info = reason }) ∷ []
     monitor_tells = told_once ((first, plain cookie) ∷ (second, plain cookie) ∷ []) (connected_over_a_trunk own other ++ monitoring reason)
         (Arrive (trunk 1) first 0) reference _ monitor_down
 
@@ -128,7 +130,7 @@ module _ (cookie : List ℕ) (own other : ℕ) where
         (sides_of_first_3 cookie own other) [])
         (node cookie second 1 true 1 0 0 0 exit_lives_of_second_1
         (fm.retain_keys (ends_of_second_0 cookie own other) (λ pair. not (same_pid pair.0 there))) (without_owner fm.empty there)
-        (without_target fm.empty there) (sides_of_second_1 cookie own other) [])
+        (without_held fm.empty there) (sides_of_second_1 cookie own other) [])
         exit_lists_1
 
     exit_step_0 : (step exit_world_0 (Call second (Command.ExitSelf there reason))).world ≡ exit_world_1

@@ -7,7 +7,7 @@ use Rattle.dist_model.specs.declared.report.Kind.{Kind}
 use Rattle.dist_model.specs.Causes.{Reacts}
 use Rattle.dist_model.specs.declared.report.Answer.{Answer}
 use Rattle.dist_model.specs.declared.command.Command.{Command}
-use Rattle.dist_model.specs.Exits.{without_owner, without_target}
+use Rattle.dist_model.specs.Exits.{without_held, without_owner}
 use Rattle.erl_control.specs.Fits.{fits}
 use Rattle.dist_model.specs.Items.{Signalled}
 use Rattle.dist_model.specs.Names.{pair_cmp, same_pid}
@@ -24,7 +24,9 @@ use Rattle.erl_term.specs.Order.{pid_cmp}
 use Rattle.exit_core.specs.Messages.{exit_term}
 use Rattle.link_core.specs.News.{noproc}
 use Rattle.link_core.specs.declared.end.End.{End}
-use Rattle.monitor_core.specs.Monitors.{MonitorMap, monitor_of}
+use Rattle.dist_model.specs.Monitoring.{registration_of}
+use Rattle.monitor_core.specs.Monitors.{RegistrationMap, WatchMap, watch_of}
+use Rattle.monitor_core.specs.declared.monitor.Target.{Target}
 use Rattle.dist_model.proofs.ExampleWorlds.{node, of_worlds, world}
 
 module _ (cookie : List ℕ) where
@@ -103,11 +105,11 @@ module _ (cookie : List ℕ) where
     abbrev late_exit_ends_of_first_4 : FinMap pair_cmp End
     late_exit_ends_of_first_4 = fm.retain_keys late_exit_ends_of_first_3 (λ pair. not (same_pid pair.0 beside))
 
-    abbrev late_exit_watches_of_first_1 : MonitorMap
+    abbrev late_exit_watches_of_first_1 : WatchMap
     late_exit_watches_of_first_1 = without_owner fm.empty beside
 
-    abbrev late_exit_registered_of_first_1 : MonitorMap
-    late_exit_registered_of_first_1 = without_target fm.empty beside
+    abbrev late_exit_registered_of_first_1 : RegistrationMap
+    late_exit_registered_of_first_1 = without_held fm.empty beside
 
     abbrev late_exit_world_6 : World
     late_exit_world_6 = world
@@ -197,11 +199,11 @@ module _ (cookie : List ℕ) where
     abbrev dead_partner_ends_of_first_1 : FinMap pair_cmp End
     dead_partner_ends_of_first_1 = fm.retain_keys fm.empty (λ pair. not (same_pid pair.0 beside))
 
-    abbrev dead_partner_watches_of_first_1 : MonitorMap
+    abbrev dead_partner_watches_of_first_1 : WatchMap
     dead_partner_watches_of_first_1 = without_owner fm.empty beside
 
-    abbrev dead_partner_registered_of_first_1 : MonitorMap
-    dead_partner_registered_of_first_1 = without_target fm.empty beside
+    abbrev dead_partner_registered_of_first_1 : RegistrationMap
+    dead_partner_registered_of_first_1 = without_held fm.empty beside
 
     abbrev dead_partner_world_4 : World
     dead_partner_world_4 = world
@@ -281,8 +283,8 @@ module _ (cookie : List ℕ) where
     late_down_step_1 : (step late_down_world_1 (Call first Command.Spawn)).world ≡ late_down_world_2
     late_down_step_1 = refl
 
-    abbrev late_down_watches_of_first_1 : MonitorMap
-    late_down_watches_of_first_1 = fm.insert fm.empty reference (monitor_of here beside)
+    abbrev late_down_watches_of_first_1 : WatchMap
+    late_down_watches_of_first_1 = fm.insert fm.empty reference (watch_of here (Target.Pid beside))
 
     abbrev late_down_world_3 : World
     late_down_world_3 = world
@@ -294,8 +296,8 @@ module _ (cookie : List ℕ) where
     late_down_step_2 : (step late_down_world_2 (Call first (Command.Monitor here beside))).world ≡ late_down_world_3
     late_down_step_2 = simp of_worlds refl
 
-    abbrev late_down_registered_of_first_1 : MonitorMap
-    late_down_registered_of_first_1 = fm.insert fm.empty reference (monitor_of here beside)
+    abbrev late_down_registered_of_first_1 : RegistrationMap
+    late_down_registered_of_first_1 = fm.insert fm.empty reference (registration_of here beside)
 
     abbrev late_down_world_4 : World
     late_down_world_4 = world
@@ -313,11 +315,11 @@ module _ (cookie : List ℕ) where
     abbrev late_down_ends_of_first_1 : FinMap pair_cmp End
     late_down_ends_of_first_1 = fm.retain_keys fm.empty (λ pair. not (same_pid pair.0 beside))
 
-    abbrev late_down_watches_of_first_2 : MonitorMap
+    abbrev late_down_watches_of_first_2 : WatchMap
     late_down_watches_of_first_2 = without_owner late_down_watches_of_first_1 beside
 
-    abbrev late_down_registered_of_first_2 : MonitorMap
-    late_down_registered_of_first_2 = without_target late_down_registered_of_first_1 beside
+    abbrev late_down_registered_of_first_2 : RegistrationMap
+    late_down_registered_of_first_2 = without_held late_down_registered_of_first_1 beside
 
     abbrev late_down_world_5 : World
     late_down_world_5 = world
@@ -329,7 +331,7 @@ module _ (cookie : List ℕ) where
     late_down_step_4 : (step late_down_world_4 (Call first (Command.ExitSelf beside reason))).world ≡ late_down_world_5
     late_down_step_4 = simp (of_worlds, fitting) refl
 
-    abbrev late_down_watches_of_first_3 : MonitorMap
+    abbrev late_down_watches_of_first_3 : WatchMap
     late_down_watches_of_first_3 = fm.remove late_down_watches_of_first_2 reference
 
     abbrev late_down_world_6 : World

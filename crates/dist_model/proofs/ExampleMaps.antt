@@ -13,7 +13,7 @@ use Rattle.erl_term.specs.Order.{pid_cmp, reference_cmp}
 use Rattle.erl_names.specs.declared.trunk.TrunkId.{TrunkId}
 use Rattle.erl_names.specs.Order.{trunk_cmp}
 use Rattle.link_core.specs.declared.end.End.{End}
-use Rattle.monitor_core.specs.declared.monitor.Monitor.{Monitor}
+
 use Rattle.dist_model.specs.Names.{Name, pair_cmp, place_cmp}
 use Rattle.dist_model.specs.Items.{Item}
 use Rattle.dist_model.specs.Sides.{TrunkSide}
@@ -96,7 +96,7 @@ alone k e =
     twice true q = sym (fm.get-empty pair_cmp q)
     twice false q = refl
 
-pub no_monitors : fm.entries (fm.empty {X = Monitor} {R = reference_cmp}) ≡ []
+pub no_monitors : {M : Type 0} → fm.entries (fm.empty {X = M} {R = reference_cmp}) ≡ []
 no_monitors = entries-empty reference_cmp
 
 -- a node knows its own digest

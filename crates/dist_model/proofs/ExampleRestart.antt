@@ -24,7 +24,9 @@ use Rattle.erl_handshake.specs.declared.message.ShakeMsg.{ShakeMsg}
 use Rattle.erl_handshake.specs.declared.status.Status.{Status}
 use Rattle.erl_names.specs.Order.{trunk_cmp}
 use Rattle.erl_term.specs.Order.{pid_cmp}
-use Rattle.monitor_core.specs.Monitors.{MonitorMap, monitor_of}
+use Rattle.dist_model.specs.Monitoring.{registration_of}
+use Rattle.monitor_core.specs.Monitors.{RegistrationMap, WatchMap, watch_of}
+use Rattle.monitor_core.specs.declared.monitor.Target.{Target}
 use Rattle.dist_model.proofs.ExampleWorlds.{node, of_worlds, told_once, world}
 use Rattle.dist_model.proofs.ExampleLinks.{plainly}
 use Rattle.dist_model.specs.Sides.{untold}
@@ -208,8 +210,8 @@ module _ (cookie : List ℕ) (own other : ℕ) where
   restart_step_10 : (step restart_world_10 (Arrive (trunk 2) first 0)).world ≡ restart_world_11
   restart_step_10 = simp (of_worlds, knows) refl
 
-  abbrev restart_watches_of_first_1 : MonitorMap
-  restart_watches_of_first_1 = fm.insert fm.empty reference (monitor_of here there)
+  abbrev restart_watches_of_first_1 : WatchMap
+  restart_watches_of_first_1 = fm.insert fm.empty reference (watch_of here (Target.Pid there))
 
   abbrev restart_lists_11 : FinMap place_cmp (List Item)
   restart_lists_11 = fm.insert restart_lists_10 (trunk 2, second) (Signalled (Signal.Monitor here there reference) false ∷ [])
@@ -273,11 +275,11 @@ module _ (cookie : List ℕ) (own other : ℕ) where
 
   restart_down : downs_by reference (Arrive (trunk 2) first 0)
       ((step (run (connected_over_a_trunk own other ++ monitoring_the_former own other) (two_nodes cookie))
-      (Arrive (trunk 2) first 0)).report) ≡ (record { owner = here; target = there; info = noproc }) ∷ []
+      (Arrive (trunk 2) first 0)).report) ≡ (record { owner = here; target = Target.Pid there; info = noproc }) ∷ []
   restart_down = ap (λ w. downs_by reference (Arrive (trunk 2) first 0) ((step w (Arrive (trunk 2) first 0)).report)) restart_is
       ∙ simp of_worlds refl
 
   pub restart_tells : downs reference (history (monitored_after_a_restart own other) (two_nodes cookie)) ≡
-      (record { owner = here; target = there; info = noproc }) ∷ []
+      (record { owner = here; target = Target.Pid there; info = noproc }) ∷ []
   restart_tells = told_once ((first, plain cookie) ∷ (second, plain cookie) ∷ []) (connected_over_a_trunk own other ++ monitoring_the_former own other)
       (Arrive (trunk 2) first 0) reference _ restart_down

@@ -25,32 +25,33 @@ use Rattle.erl_term.specs.Order.{pid_cmp, reference_cmp}
 use Rattle.erl_term.specs.declared.term.Pid.{Pid}
 use Rattle.erl_term.specs.declared.term.Reference.{Reference}
 use Rattle.link_core.specs.declared.end.End.{End}
-use Rattle.monitor_core.specs.Monitors.{MonitorMap}
-use Rattle.monitor_core.specs.declared.monitor.Monitor.{Monitor}
+use Rattle.monitor_core.specs.Monitors.{MonitorMap, RegistrationMap, WatchMap}
+use Rattle.monitor_core.specs.declared.monitor.Registration.{Registration}
+use Rattle.monitor_core.specs.declared.monitor.Watch.{Watch}
 use Rattle.erl_handshake.specs.declared.setup.Setup.{Setup}
 use Rattle.erl_handshake.specs.Flags.{mandatory}
 
-pub get_monitor : (m : MonitorMap) (k : Reference) (v : Monitor) (q : Reference)
+pub get_monitor : {M : Type 0} (m : MonitorMap M) (k : Reference) (v : M) (q : Reference)
     → fm.get (fm.insert m k v) q ≡ cond (eq_by_cmp reference_cmp q k) (Some v) (fm.get m q)
 get_monitor m k v q = fm.get-insert reference_cmp_total m k v q
 
-pub no_monitor : (q : Reference) → fm.get (fm.empty {X = Monitor} {R = reference_cmp}) q ≡ None
+pub no_monitor : {M : Type 0} (q : Reference) → fm.get (fm.empty {X = M} {R = reference_cmp}) q ≡ None
 no_monitor q = fm.get-empty reference_cmp q
 
-pub entries_monitor : (m : MonitorMap) (k : Reference) (v : Monitor) → fm.entries (fm.insert m k v) ≡ put reference_cmp k v (fm.entries m)
+pub entries_monitor : {M : Type 0} (m : MonitorMap M) (k : Reference) (v : M) → fm.entries (fm.insert m k v) ≡ put reference_cmp k v (fm.entries m)
 entries_monitor m k v = fm.entries-insert reference_cmp_total m k v
 
-pub gone_monitor : (m : MonitorMap) (k q : Reference) → fm.get (fm.remove m k) q ≡ cond (eq_by_cmp reference_cmp q k) None (fm.get m q)
+pub gone_monitor : {M : Type 0} (m : MonitorMap M) (k q : Reference) → fm.get (fm.remove m k) q ≡ cond (eq_by_cmp reference_cmp q k) None (fm.get m q)
 gone_monitor m k q = fm.get-remove reference_cmp_total m k q
 
 pub left_end : (m : FinMap pair_cmp End) (x : Pid) (q : Pid × Pid)
     → fm.get (fm.retain_keys m (λ pair. not (same_pid pair.0 x))) q ≡ cond (not (same_pid q.0 x)) (fm.get m q) None
 left_end m x q = fm.get-retain_keys m (λ pair. not (same_pid pair.0 x)) q (λ k h. alike x k q h)
 
-abbrev pub one : Reference → Monitor → MonitorMap
+abbrev pub one : Reference → Watch → WatchMap
 one k v = fm.insert fm.empty k v
 
-pub left_watch : (k : Reference) (v : Monitor) (x : Pid) (q : Reference)
+pub left_watch : (k : Reference) (v : Watch) (x : Pid) (q : Reference)
     → fm.get (fm.retain_keys (one k v) (λ r. not (is_owned x (cond (eq_by_cmp reference_cmp r k) (Some v) None)))) q
     ≡ cond (not (is_owned x (cond (eq_by_cmp reference_cmp q k) (Some v) None))) (fm.get (one k v) q) None
 left_watch k v x q = fm.get-retain_keys (one k v) (λ r. not (is_owned x (cond (eq_by_cmp reference_cmp r k) (Some v) None))) q
@@ -75,7 +76,7 @@ told_once nodes es e r d h =
     none (x ∷ l) h = absurd (omega (arith, h))
 
 abbrev pub node : (cookie : List ℕ) → Name → ℕ → Bool → (pids references unlinks dialed : ℕ) → FinMap pid_cmp Life → FinMap pair_cmp End
-    → (watches registered : MonitorMap) → FinMap trunk_cmp TrunkSide → List Item → Node
+    → (watches : WatchMap) → (registered : RegistrationMap) → FinMap trunk_cmp TrunkSide → List Item → Node
 node cookie name creation up pids references unlinks dialed lives ends watches registered sides local = record {
   mint = record { name = name; creation = creation; pids = pids; references = references; unlink_ids = unlinks };
   cookie = cookie;

@@ -9,14 +9,14 @@ use Rattle.std.proofs.lemmas.Option.{same_Some, none-some}
 use Rattle.std.specs.List.{All}
 use Rattle.std.specs.FinMap as fm
 use Rattle.dist_model.proofs.Envelopes.{Envelope, outgoing, sent_in-push, sent_in-silent}
-use Rattle.dist_model.proofs.Entries.{each_entry, none_by, same_reference_true}
+use Rattle.dist_model.proofs.Entries.{IsBound, each_entry, none_by, same_reference_true}
 use Rattle.dist_model.proofs.HandshakeParts.{Turned}
 use Rattle.dist_model.proofs.Keys.{same_pid_true, same_trunk}
 use Rattle.dist_model.proofs.Parts.{Closed, Rules, is_plain}
 use Rattle.dist_model.proofs.Routes.{at_place, list_to_carried, list_to_insert}
 use Rattle.dist_model.specs.Downs.{same_reference}
 use Rattle.dist_model.proofs.LastSignals.{exits_in, exits_cons}
-use Rattle.dist_model.specs.Exits.{demonitors, exit_for, end_process, is_owned, is_target, monitor_exits}
+use Rattle.dist_model.specs.Exits.{demonitors, exit_for, end_process, is_owned, is_bound, monitor_exits}
 use Rattle.dist_model.specs.Handshake.{with_side, write}
 use Rattle.dist_model.specs.Items.{Handshake, Item, Signalled, has_reason}
 use Rattle.dist_model.specs.Monitoring.{register, unregister, unwatch}
@@ -33,10 +33,13 @@ use Rattle.erl_term.specs.declared.term.Reference.{Reference}
 use Rattle.exit_core.specs.Messages.{down_term}
 use Rattle.link_core.specs.declared.end.End.{End}
 use Rattle.erl_term.proofs.Order.{reference_cmp_exact, reference_cmp_total}
-use Rattle.monitor_core.specs.Monitors.{MonitorMap, added}
-use Rattle.monitor_core.specs.declared.monitor.Monitor.{Monitor}
+use Rattle.monitor_core.specs.Monitors.{MonitorMap, RegistrationMap, WatchMap, added}
 use Rattle.dist_model.specs.World.{carried, list_to}
 use Rattle.std.specs.FinMap.{FinMap}
+use Rattle.monitor_core.specs.declared.monitor.Target.{Target}
+use Rattle.monitor_core.specs.declared.monitor.Watch.{Watch}
+use Rattle.monitor_core.specs.declared.monitor.Registration.{Registration}
+use Rattle.dist_model.specs.Telling.{object, taken_back, told_end}
 
 -- by whose ends, by which calls of Monitor, and by which monitors that ended
 abbrev pub FoundedSignal : (Pid → Data → Type 0) → (Pid → Pid → Reference → Type 0) → (Reference → Type 0) → Signal → Type 0
@@ -193,30 +196,30 @@ pub all_posts_keep : {A : Type 0} (f : Node → A) → ((n : Node) (l : List Ite
 all_posts_keep f h [] o = refl
 all_posts_keep f h (s ∷ ss) o = all_posts_keep f h ss (post s o) ∙ posts_keep f h s.node (spelled o.node s) o
 
-cond_some : (b : Bool) (v : Option Monitor) (m : Monitor) → cond b None v ≡ Some m → v ≡ Some m
+cond_some : {M : Type 0} (b : Bool) (v : Option M) (m : M) → cond b None v ≡ Some m → v ≡ Some m
 cond_some true v m h = absurd (none-some m h)
 cond_some false v m h = h
 
-pub removed_some : (w : MonitorMap) (k r : Reference) (m : Monitor) → fm.get (fm.remove w k) r ≡ Some m → fm.get w r ≡ Some m
+pub removed_some : {M : Type 0} (w : MonitorMap M) (k r : Reference) (m : M) → fm.get (fm.remove w k) r ≡ Some m → fm.get w r ≡ Some m
 removed_some w k r m h = cond_some (same_reference r k) (fm.get w r) m (sym (fm.get-remove reference_cmp_total w k r) ∙ h)
 
-pub retained : (b : Bool) (v : Option Monitor) (m : Monitor) → cond b v None ≡ Some m → (b ≡ true) × (v ≡ Some m)
+pub retained : {M : Type 0} (b : Bool) (v : Option M) (m : M) → cond b v None ≡ Some m → (b ≡ true) × (v ≡ Some m)
 retained true v m h = (refl, h)
 retained false v m h = absurd (none-some m h)
 
-pub watches_left : (p : Pid) (w : MonitorMap) (r : Reference)
+pub watches_left : (p : Pid) (w : WatchMap) (r : Reference)
     → fm.get (fm.retain_keys w (λ j. not (is_owned p (fm.get w j)))) r ≡ cond (not (is_owned p (fm.get w r))) (fm.get w r) None
 watches_left p w r =
     fm.get-retain_keys w (λ j. not (is_owned p (fm.get w j))) r
     (λ j h. ap (λ i. not (is_owned p (fm.get w i))) (sym (reference_cmp_exact r j h)))
 
-pub registered_left : (p : Pid) (w : MonitorMap) (r : Reference)
-    → fm.get (fm.retain_keys w (λ j. not (is_target p (fm.get w j)))) r ≡ cond (not (is_target p (fm.get w r))) (fm.get w r) None
+pub registered_left : (p : Pid) (w : RegistrationMap) (r : Reference)
+    → fm.get (fm.retain_keys w (λ j. not (is_bound p (fm.get w j)))) r ≡ cond (not (is_bound p (fm.get w r))) (fm.get w r) None
 registered_left p w r =
-    fm.get-retain_keys w (λ j. not (is_target p (fm.get w j))) r
-    (λ j h. ap (λ i. not (is_target p (fm.get w i))) (sym (reference_cmp_exact r j h)))
+    fm.get-retain_keys w (λ j. not (is_bound p (fm.get w j))) r
+    (λ j h. ap (λ i. not (is_bound p (fm.get w i))) (sym (reference_cmp_exact r j h)))
 
-pub added_some : (w : MonitorMap) (k : Reference) (v : Monitor) (r : Reference) (m : Monitor)
+pub added_some : {M : Type 0} (w : MonitorMap M) (k : Reference) (v : M) (r : Reference) (m : M)
     → fm.get (added w k v) r ≡ Some m → (fm.get w r ≡ Some m) ⊎ ((r ≡ k) × (v ≡ m))
 added_some w k v r m h = go (fm.contains_key w k) h
   where
@@ -236,7 +239,7 @@ module _ (n : Node) (Old : Pid → Data → Type 0) (Ok : Pid → Pid → Data �
 
   -- a monitor that is over, or ended in this event
   abbrev pub OffNow : Work → Reference → Type 0
-  OffNow o r = Off r ⊎ (((m : Monitor) × (fm.get n.watches r ≡ Some m)) × (fm.get o.node.watches r ≡ None))
+  OffNow o r = Off r ⊎ (((m : Watch) × (fm.get n.watches r ≡ Some m)) × (fm.get o.node.watches r ≡ None))
 
   abbrev pub FoundedIn : Work → Item → Type 0
   FoundedIn o = Founded (EndedBefore o) Call (OffNow o)
@@ -244,11 +247,11 @@ module _ (n : Node) (Old : Pid → Data → Type 0) (Ok : Pid → Pid → Data �
   pub record True (o : Work) : Type 0 where
     pub carried : Carried (FoundedIn o) o
     pub acts : (p q : Pid) (x : Data) → Contains o.effects (Effect.LinkExit p q x) → Ok p q x
-    pub watched : (r : Reference) (m : Monitor) → fm.get o.node.watches r ≡ Some m → fm.get n.watches r ≡ Some m
-    pub enrolled : (r : Reference) (m : Monitor) → fm.get o.node.registered r ≡ Some m → Call m.owner m.target r
+    pub watched : (r : Reference) (m : Watch) → fm.get o.node.watches r ≡ Some m → fm.get n.watches r ≡ Some m
+    pub enrolled : (r : Reference) (m : Registration) → fm.get o.node.registered r ≡ Some m → Call m.owner m.held r × IsBound m
 
   widen : (o o' : Work) → ((f : Effect Item) → Contains o.effects f → Contains o'.effects f)
-      → ((r : Reference) (m : Monitor) → fm.get o'.node.watches r ≡ Some m → fm.get o.node.watches r ≡ Some m) → (i : Item)
+      → ((r : Reference) (m : Watch) → fm.get o'.node.watches r ≡ Some m → fm.get o.node.watches r ≡ Some m) → (i : Item)
       → FoundedIn o i → FoundedIn o' i
   widen o o' f w = founded_by (EndedBefore o) (EndedBefore o') Call Call (OffNow o) (OffNow o') ends (λ p q r c. c) offs
     where
@@ -264,8 +267,8 @@ module _ (n : Node) (Old : Pid → Data → Type 0) (Ok : Pid → Pid → Data �
   pub true_more : (o o' : Work) → o'.node.local ≡ o.node.local → (outgoing o') ≡ (outgoing o)
       → ((f : Effect Item) → Contains o.effects f → Contains o'.effects f)
       → ((p q : Pid) (x : Data) → Contains o'.effects (Effect.LinkExit p q x) → Ok p q x)
-      → ((r : Reference) (m : Monitor) → fm.get o'.node.watches r ≡ Some m → fm.get o.node.watches r ≡ Some m)
-      → ((r : Reference) (m : Monitor) → fm.get o'.node.registered r ≡ Some m → Call m.owner m.target r) → True o → True o'
+      → ((r : Reference) (m : Watch) → fm.get o'.node.watches r ≡ Some m → fm.get o.node.watches r ≡ Some m)
+      → ((r : Reference) (m : Registration) → fm.get o'.node.registered r ≡ Some m → Call m.owner m.held r × IsBound m) → True o → True o'
   true_more o o' l s f a w e k = let c = carried_by (FoundedIn o) (FoundedIn o') o (widen o o' f w) k.carried in record {
     carried = record {
       local = subst (λ z. All (FoundedIn o') z) (sym l) c.local;
@@ -353,22 +356,24 @@ module _ (n : Node) (Old : Pid → Data → Type 0) (Ok : Pid → Pid → Data �
         go true End.Active = All-cons Good (to_pid e.0.1 (Signal.Exit p e.0.1 x)) [] why none
         go _ _ = none
 
-    monitor_exits_good : (es : List (Reference × Monitor)) → All (λ e. fm.get o.node.registered e.0 ≡ Some e.1) es
+    monitor_exits_good : (es : List (Reference × Registration)) → All (λ e. fm.get o.node.registered e.0 ≡ Some e.1) es
         → All Good (monitor_exits p x es)
     monitor_exits_good [] h = none
     monitor_exits_good (e ∷ es) h =
-        All-append Good (cond (same_pid e.1.target p) (to_pid e.1.owner (Signal.MonitorExit p e.1.owner e.0 x) ∷ []) []) (monitor_exits p x es)
-        (go (same_pid e.1.target p) refl)
+        All-append Good (cond (same_pid e.1.held p) (told_end e.1.target e.1.owner e.0 x) []) (monitor_exits p x es)
+        (go (same_pid e.1.held p) refl)
         (monitor_exits_good es (All-tail (λ d. fm.get o.node.registered d.0 ≡ Some d.1) e es h))
       where
-        go : (b : Bool) → same_pid e.1.target p ≡ b → All Good (cond b (to_pid e.1.owner (Signal.MonitorExit p e.1.owner e.0 x) ∷ []) [])
+        known : Call e.1.owner e.1.held e.0 × IsBound e.1
+        known = k.enrolled e.0 e.1 (All-head (λ d. fm.get o.node.registered d.0 ≡ Some d.1) e es h)
+
+        go : (b : Bool) → same_pid e.1.held p ≡ b → All Good (cond b (told_end e.1.target e.1.owner e.0 x) [])
         go true i =
-            All-cons Good (to_pid e.1.owner (Signal.MonitorExit p e.1.owner e.0 x)) [] (
-              why,
-              subst (λ z. Call e.1.owner z e.0)
-                  (same_pid_true e.1.target p i)
-                  (k.enrolled e.0 e.1 (All-head (λ d. fm.get o.node.registered d.0 ≡ Some d.1) e es h)),
-            ) none
+            subst (λ z. All Good (told_end z e.1.owner e.0 x)) (sym known.1)
+            (All-cons Good (to_pid e.1.owner (Signal.MonitorExit e.1.held e.1.owner e.0 x)) [] (
+              subst (λ z. EndedBefore (end_process p x o) z x) (sym (same_pid_true e.1.held p i)) why,
+              known.0,
+            ) none)
         go false i = none
 
     left : (r : Reference)
@@ -378,25 +383,28 @@ module _ (n : Node) (Old : Pid → Data → Type 0) (Ok : Pid → Pid → Data �
         exits_in p x (fm.entries o.node.ends) ++ monitor_exits p x (fm.entries o.node.registered)
         ++ demonitors p (fm.entries o.node.watches) in
         watches_left p ((post_all ss o).node.watches) r ∙ ap
-        (λ (z : MonitorMap). cond (not (is_owned p (fm.get z r))) (fm.get z r) None)
+        (λ (z : WatchMap). cond (not (is_owned p (fm.get z r))) (fm.get z r) None)
         (all_posts_keep (λ m. m.watches) (λ m l. refl) ss o)
 
-    demonitors_good : (es : List (Reference × Monitor)) → All (λ e. fm.get o.node.watches e.0 ≡ Some e.1) es → All Good (demonitors p es)
+    demonitors_good : (es : List (Reference × Watch)) → All (λ e. fm.get o.node.watches e.0 ≡ Some e.1) es → All Good (demonitors p es)
     demonitors_good [] h = none
     demonitors_good (e ∷ es) h =
-        All-append Good (cond (same_pid e.1.owner p) (to_pid e.1.target (Signal.Demonitor p e.1.target e.0) ∷ []) []) (demonitors p es)
+        All-append Good (cond (same_pid e.1.owner p) (taken_back p e.1.target e.0) []) (demonitors p es)
         (go (same_pid e.1.owner p) refl)
         (demonitors_good es (All-tail (λ d. fm.get o.node.watches d.0 ≡ Some d.1) e es h))
       where
         here : fm.get o.node.watches e.0 ≡ Some e.1
         here = All-head (λ d. fm.get o.node.watches d.0 ≡ Some d.1) e es h
 
-        go : (b : Bool) → same_pid e.1.owner p ≡ b → All Good (cond b (to_pid e.1.target (Signal.Demonitor p e.1.target e.0) ∷ []) [])
-        go true i =
-            All-cons Good (to_pid e.1.target (Signal.Demonitor p e.1.target e.0)) [] (inr (
-              (e.1, k.watched e.0 e.1 here),
-              left e.0 ∙ ap (λ v. cond (not (is_owned p v)) v None) here ∙ ap (λ b. cond (not b) (Some e.1) None) i,
-            )) none
+        back : (z : Target) → OffNow (end_process p x o) e.0 → All Good (taken_back p z e.0)
+        back (Target.Pid q) f = All-cons Good (to_pid q (Signal.Demonitor p q e.0)) [] f none
+        back (Target.Name name node) f = none
+
+        go : (b : Bool) → same_pid e.1.owner p ≡ b → All Good (cond b (taken_back p e.1.target e.0) [])
+        go true i = back e.1.target (inr (
+          (e.1, k.watched e.0 e.1 here),
+          left e.0 ∙ ap (λ v. cond (not (is_owned p v)) v None) here ∙ ap (λ b. cond (not b) (Some e.1) None) i,
+        ))
         go false i = none
 
     true_finish : True (end_process p x o)
@@ -410,7 +418,7 @@ module _ (n : Node) (Old : Pid → Data → Type 0) (Ok : Pid → Pid → Data �
         let rs = all_posts_keep (λ m. m.registered) (λ m l. refl) ss o in
         let more : (f : Effect Item) → Contains o.effects f → Contains (end_process p x o).effects f =
         λ f h. Contains-append_left o1.effects (Effect.Ended p x ∷ []) f (quietly_more o.effects o1.effects q f h) in
-        let less : (r : Reference) (m : Monitor) → fm.get (end_process p x o).node.watches r ≡ Some m → fm.get o.node.watches r ≡ Some m =
+        let less : (r : Reference) (m : Watch) → fm.get (end_process p x o).node.watches r ≡ Some m → fm.get o.node.watches r ≡ Some m =
         λ r m h. (retained (not (is_owned p (fm.get o.node.watches r))) (fm.get o.node.watches r) m (sym (left r) ∙ h)).1 in
         let c : Carried (FoundedIn (end_process p x o)) o1 = carried_all (FoundedIn (end_process p x o)) (λ s pay c. c) ss o
         (All-append Good (exits_in p x (fm.entries o.node.ends) ++ monitor_exits p x (fm.entries o.node.registered))
@@ -429,7 +437,7 @@ module _ (n : Node) (Old : Pid → Data → Type 0) (Ok : Pid → Pid → Data �
           acts = λ a b z h. pick a b z (Contains-push_cases o1.effects (Effect.Ended p x) (Effect.LinkExit a b z) h);
           watched = λ r m h. k.watched r m (less r m h);
           enrolled = λ r m h. k.enrolled r m (ap (λ z. fm.get z r) (sym rs) ∙ (retained
-              (not (is_target p (fm.get o1.node.registered r))) (fm.get o1.node.registered r) m
+              (not (is_bound p (fm.get o1.node.registered r))) (fm.get o1.node.registered r) m
               (sym (registered_left p o1.node.registered r) ∙ h)).1);
         }
       where
@@ -448,7 +456,7 @@ module _ (n : Node) (Old : Pid → Data → Type 0) (Ok : Pid → Pid → Data �
     Says = λ s. FoundedSignal Old Call Off s.signal;
     Reacts = Ok;
     Tells = λ r m x. Unit {0};
-    Joins = λ r m. Call m.owner m.target r;
+    Joins = λ r m. Call m.owner m.held r;
     Drops = λ r m. Unit {0};
   }
 
@@ -462,18 +470,21 @@ module _ (n : Node) (Old : Pid → Data → Type 0) (Ok : Pid → Pid → Data �
     message = λ p m o h k. true_put p m o k;
     reacted = λ p q x o h k. true_reported p q x o h k;
     finished = λ p x o k. true_finish p x o k;
-    registers = λ r m o l h k. true_more o (register r m o) refl refl (λ f c. c) k.acts (λ s v c. c)
-        (λ s v c. joined r m o h k s v (added_some o.node.registered r m s v c)) k;
+    registers = λ r m o l b h k. true_more o (register r m o) refl refl (λ f c. c) k.acts (λ s v c. c)
+        (λ s v c. joined r m o h b k s v (added_some o.node.registered r m s v c)) k;
     unregisters = λ r m o e h k. true_more o (unregister r o) refl refl (λ f c. c) k.acts (λ s v c. c)
         (λ s v c. k.enrolled s v (removed_some o.node.registered r s v c)) k;
-    ended = λ r m x o e h k. true_put m.owner (down_term r m.target x) (unwatch r o)
+    ended = λ r m x o e h k. true_put m.owner (down_term r (object m.target) x) (unwatch r o)
         (true_more o (unwatch r o) refl refl (λ f c. c) k.acts (λ s v c. removed_some o.node.watches r s v c) k.enrolled k);
   }
     where
-      joined : (r : Reference) (m : Monitor) (o : Work) → Call m.owner m.target r → True o → (s : Reference) (v : Monitor)
-          → (fm.get o.node.registered s ≡ Some v) ⊎ ((s ≡ r) × (m ≡ v)) → Call v.owner v.target s
-      joined r m o h k s v (inl c) = k.enrolled s v c
-      joined r m o h k s v (inr c) = subst (λ z. Call v.owner v.target z) (sym c.0) (subst (λ (z : Monitor). Call z.owner z.target r) c.1 h)
+      joined : (r : Reference) (m : Registration) (o : Work) → Call m.owner m.held r → IsBound m → True o → (s : Reference)
+          (v : Registration) → (fm.get o.node.registered s ≡ Some v) ⊎ ((s ≡ r) × (m ≡ v)) → Call v.owner v.held s × IsBound v
+      joined r m o h b k s v (inl c) = k.enrolled s v c
+      joined r m o h b k s v (inr c) = (
+        subst (λ z. Call v.owner v.held z) (sym c.0) (subst (λ (z : Registration). Call z.owner z.held r) c.1 h),
+        subst IsBound c.1 b,
+      )
 
   -- the handshake
   pub true_side : (t : TrunkId) (s : TrunkSide) (o : Work) → Turned o.node t s → True o → True (with_side t s o)

@@ -31,8 +31,11 @@ use Rattle.exit_core.specs.declared.reaction.Reaction.{Reaction}
 use Rattle.link_core.specs.News.{Exited, LinkNews, Signals, heard, noproc, reply}
 use Rattle.link_core.specs.declared.end.End.{End}
 use Rattle.link_core.specs.declared.end.LinkSignal.{LinkSignal}
-use Rattle.monitor_core.specs.Monitors.{is_held, monitor_of}
-use Rattle.monitor_core.specs.declared.monitor.Monitor.{Monitor}
+use Rattle.monitor_core.specs.Monitors.{as_watch, is_held, itself, watch_of}
+use Rattle.dist_model.specs.Monitoring.{registration_of}
+use Rattle.erl_term.specs.Data.{pid}
+use Rattle.monitor_core.specs.declared.monitor.Target.{Target}
+use Rattle.monitor_core.specs.declared.monitor.Registration.{Registration}
 
 -- p reacted to the exit of its link with q
 abbrev pub is_reaction : Pid → Pid → Effect Item → Bool
@@ -174,7 +177,7 @@ pub calm_cond : (b : Bool) (o x y : Work) → Calm o x → Calm o y → Calm o (
 calm_cond true o x y f g = f
 calm_cond false o x y f g = g
 
-calm_register : (k : Reference) (u : Monitor) (o : Work) → Calm o (register k u o)
+calm_register : (k : Reference) (u : Registration) (o : Work) → Calm o (register k u o)
 calm_register k u o p q h = h
 
 pub item_taken : (y : Name) (x : Item) (o : Work) (p q : Pid) → reacts_in p q ((take_item y x o).effects) ≡ true
@@ -188,11 +191,11 @@ item_taken y (Signalled (Signal.Exit2 b a r) pay) o p q h =
     inl (calm_cond (living o.node a) o _ o (calm_carry (reaction (traps_life (fm.get o.node.lives a)) (sent_exit a b r)) a o)
     (λ c d k. k) p q h)
 item_taken y (Signalled (Signal.Monitor b a k) pay) o p q h =
-    inl (calm_cond (living o.node a) o _ _ (calm_register k (monitor_of b a) o)
+    inl (calm_cond (living o.node a) o _ _ (calm_register k (registration_of b a) o)
     (calm_post b.node (spelled o.node (to_pid b (Signal.MonitorExit a b k noproc))) o) p q h)
 item_taken y (Signalled (Signal.Demonitor b a k) pay) o p q h =
-    inl (calm_cond (is_held o.node.registered k (monitor_of b a)) o (unregister k o) o (λ c d z. z) (λ c d z. z) p q h)
+    inl (calm_cond (is_held as_watch o.node.registered k (watch_of b (Target.Pid a))) o (unregister k o) o (λ c d z. z) (λ c d z. z) p q h)
 item_taken y (Signalled (Signal.MonitorExit b a k r) pay) o p q h =
-    inl (calm_cond (living o.node a && is_held o.node.watches k (monitor_of a b)) o _ o
-    (calm_put a (down_term k b r) (unwatch k o)) (λ c d z. z) p q h)
+    inl (calm_cond (living o.node a && is_held itself o.node.watches k (watch_of a (Target.Pid b))) o _ o
+    (calm_put a (down_term k (pid b) r) (unwatch k o)) (λ c d z. z) p q h)
 item_taken y _ o p q h = inl h

@@ -20,7 +20,7 @@ use Rattle.dist_model.proofs.WatchKnown.{Linked}
 use Rattle.dist_model.proofs.Run.{good_step_at}
 use Rattle.dist_model.proofs.Safety.{good_opening, new_is}
 use Rattle.dist_model.proofs.Trunks.{Good}
-use Rattle.dist_model.proofs.Told.{Begins, Course, Downs, IsFounded, IsNamed, Leaves, Revoked, Sound, Stays, sound_after, Old}
+use Rattle.dist_model.proofs.Told.{Begins, CauseOf, cause_of_pid, Course, Downs, IsFounded, IsNamed, Leaves, Old, Revoked, Sound, Stays, sound_after}
 use Rattle.dist_model.proofs.Lands.{down}
 use Rattle.dist_model.specs.Arrivals.{arrive_at, arrive_fresh, handshake_in, take_local}
 use Rattle.dist_model.specs.Calls.{call}
@@ -49,11 +49,12 @@ use Rattle.erl_term.specs.Data.{Data}
 use Rattle.erl_term.specs.declared.refusal.Refusal.{Refusal}
 use Rattle.erl_term.specs.declared.term.Pid.{Pid}
 use Rattle.erl_term.specs.declared.term.Reference.{Reference}
-use Rattle.monitor_core.specs.Monitors.{monitor_of}
 use Rattle.erl_term.specs.Order.{reference_cmp}
 use Rattle.dist_model.proofs.Founded.{popped_lists, founded_by}
 use Rattle.dist_model.proofs.HomeMonitors.{TargetsIn}
 use Rattle.erl_handshake.specs.declared.setup.Setup.{Setup}
+use Rattle.monitor_core.specs.declared.monitor.Target.{Target}
+use Rattle.dist_model.specs.Monitoring.{pid_watch}
 
 -- a refused event is no call that went through
 refused_unanswered : (k : Reference) (e : Event) (j : Refusal) → is_answered k e (Refused j) ≡ false
@@ -77,7 +78,7 @@ module _ (w : World) (h : History) (g : Sound w h) (e : Event) (j : Refusal) whe
   still_unrevoked k (inl i) = let c : true ≡ false = sym i ∙ refused_unrevoked k e j in cc
   still_unrevoked k (inr i) = i
 
-  old_call : (k : Reference) (p q : Pid) → Monitored k p q (refusal ∷ h) → Monitored k p q h
+  old_call : (k : Reference) (p : Pid) (q : Target) → Monitored k p q (refusal ∷ h) → Monitored k p q h
   old_call k p q (inl i) = let c : true ≡ false = sym i.1 ∙ refused_unanswered k e j in cc
   old_call k p q (inr i) = i
 
@@ -95,7 +96,7 @@ module _ (w : World) (h : History) (g : Sound w h) (e : Event) (j : Refusal) whe
     locals = λ y v hv.
         All-weaker (IsFounded w h) (IsFounded w ((record { event = e; report = Refused j }) ∷ h)) still_founded v.local (g.locals y v hv);
     homes = g.homes;
-    enrolled = λ y v k u hv i. let r = g.enrolled y v k u hv i in (r.0, inr r.1);
+    enrolled = λ y v k u hv i. let r = g.enrolled y v k u hv i in (r.0, inr r.1, r.2);
     one = λ k. omega (arith, same_answers k, g.one k);
     drawn = λ k i. g.drawn k (omega (arith, same_answers k, i));
     unanswered = λ k i. let v = g.unanswered k (omega (arith, same_answers k, i)) in (v.0, λ z. v.1 (still_unrevoked k z));
@@ -104,14 +105,14 @@ module _ (w : World) (h : History) (g : Sound w h) (e : Event) (j : Refusal) whe
     names =
         λ k. All-weaker (IsNamed k h) (IsNamed k ((record { event = e; report = Refused j }) ∷ h)) (λ d m. inr m) (downs k h) (g.names k);
     none_after = λ k i. g.none_after k (still_unrevoked k i);
-    waits = λ k p q m d r. g.waits k p q (old_call k p q m) d (λ z. r (inr z));
+    waits = λ k p q m d r. g.waits k p q (old_call k p (Target.Pid q) m) d (λ z. r (inr z));
   }
 
 -- what is told of the next event
 pub record After (w : World) (h : History) (e : Event) (s : Stepped) : Type 0 where
   pub sound : Sound s.world ((record { event = e; report = s.report }) ∷ h)
   pub acts : (p q : Pid) (z : Data) → Reacts p q z s.report → Right w h e p q z
-  pub ends : (k : Reference) (d : Down) → Contains (downs_by k e s.report) d → TrueCause h w d.owner d.target d.info
+  pub ends : (k : Reference) (d : Down) → Contains (downs_by k e s.report) d → CauseOf h w d.owner d.target d.info
 
 no_down : (d : Down) → Contains [] d → ⊥
 no_down d c = let lt = c.1 in omega arith
@@ -129,15 +130,15 @@ module _ (w : World) (h : History) (gw : Good w) (g : Sound w h) where
 
   module _ (x : Name) (n : Node) (hx : node_of w.nodes x ≡ Some n) (e : Event) (xs : List Item) where
     told_down : (a : Answer) (o : Work) (k : Reference) (d : Down) → Course w h n x e (Reported a o.effects) o k
-        → Contains (downs_by k e (Reported a o.effects)) d → TrueCause h w d.owner d.target d.info
+        → Contains (downs_by k e (Reported a o.effects)) d → CauseOf h w d.owner d.target d.info
     told_down a o k d (Stays b c i r) m = absurd (no_down d (subst (λ l. Contains l d) c m))
     told_down a o k d (Leaves u b c l ux dn i r) m = absurd (no_down d (subst (λ l. Contains l d) dn m))
     told_down a o k d (Downs u z b c t dn i r) m =
-        subst (λ (v : Down). TrueCause h w v.owner v.target v.info) (one_down (down u z) d (subst (λ l. Contains l d) dn m)) t
+        subst (λ (v : Down). CauseOf h w v.owner v.target v.info) (one_down (down u z) d (subst (λ l. Contains l d) dn m)) t
     told_down a o k d (Begins p q ev i r kx nd dr l (inl c)) m = absurd (no_down d (subst (λ l. Contains l d) c.1 m))
     told_down a o k d (Begins p q ev i r kx nd dr l (inr c)) m =
-        subst (λ (v : Down). TrueCause h w v.owner v.target v.info)
-        (one_down (down (monitor_of p q) c.1) d (subst (λ l. Contains l d) c.3 m)) c.2
+        subst (λ (v : Down). CauseOf h w v.owner v.target v.info)
+        (one_down (down (pid_watch p q) c.1) d (subst (λ l. Contains l d) c.3 m)) c.2
     told_down a o k d (Revoked u b c dn i r) m = absurd (no_down d (subst (λ l. Contains l d) dn m))
 
     ends_after : (m : FinMap place_cmp (List Item)) (o : Outcome)
@@ -285,7 +286,7 @@ pub no_down_where_demonitored : (h : History) (w : World) → Tale w h → NoDow
 no_down_where_demonitored h w t = t.sound.none_after
 
 pub downs_tell_true_cause : (h : History) (w : World) → Tale w h → DownsTellTrueCause h w
-downs_tell_true_cause h w t e r d c = (next w h t.good t.sound e).ends r d c
+downs_tell_true_cause h w t e r d c = cause_of_pid h w d.owner d.target d.info ((next w h t.good t.sound e).ends r d c)
 
 pub connected_by_cookie : (h : History) (w : World) → Tale w h → ConnectedByCookie h w
 connected_by_cookie h w t = by_cookie h w t.known

@@ -21,7 +21,10 @@ use Rattle.erl_term.specs.Data.{Data}
 use Rattle.erl_term.specs.declared.term.Pid.{Pid}
 use Rattle.erl_term.specs.declared.term.Reference.{Reference}
 use Rattle.link_core.specs.declared.end.End.{End}
-use Rattle.monitor_core.specs.declared.monitor.Monitor.{Monitor}
+use Rattle.monitor_core.specs.declared.monitor.Target.{Target}
+use Rattle.monitor_core.specs.declared.monitor.Watch.{Watch}
+use Rattle.monitor_core.specs.declared.monitor.Registration.{Registration}
+use Rattle.dist_model.specs.Telling.{taken_back, told_end}
 
 -- the target of a MONITOR_P
 abbrev pub Targets : (Pid → Type 0) → Signal → Type 0
@@ -82,24 +85,32 @@ module _ (n : Node) (P : Pid → Type 0) where
       go true End.Active = All-cons Posted (to_pid e.0.1 (Signal.Exit p e.0.1 x)) [] tt (All-nil Posted)
       go _ _ = All-nil Posted
 
-  monitor_exits_home : (p : Pid) (x : Data) (es : List (Reference × Monitor)) → All Posted (monitor_exits p x es)
+  told_home : (t : Target) (o : Pid) (k : Reference) (x : Data) → All Posted (told_end t o k x)
+  told_home (Target.Pid q) o k x = All-cons Posted (to_pid o (Signal.MonitorExit q o k x)) [] tt (All-nil Posted)
+  told_home (Target.Name name node) o k x = All-nil Posted
+
+  back_home : (p : Pid) (t : Target) (k : Reference) → All Posted (taken_back p t k)
+  back_home p (Target.Pid q) k = All-cons Posted (to_pid q (Signal.Demonitor p q k)) [] tt (All-nil Posted)
+  back_home p (Target.Name name node) k = All-nil Posted
+
+  monitor_exits_home : (p : Pid) (x : Data) (es : List (Reference × Registration)) → All Posted (monitor_exits p x es)
   monitor_exits_home p x [] = All-nil Posted
   monitor_exits_home p x (e ∷ es) =
-      All-append Posted (cond (same_pid e.1.target p) (to_pid e.1.owner (Signal.MonitorExit p e.1.owner e.0 x) ∷ []) [])
-      (monitor_exits p x es) (go (same_pid e.1.target p)) (monitor_exits_home p x es)
+      All-append Posted (cond (same_pid e.1.held p) (told_end e.1.target e.1.owner e.0 x) [])
+      (monitor_exits p x es) (go (same_pid e.1.held p)) (monitor_exits_home p x es)
     where
-      go : (b : Bool) → All Posted (cond b (to_pid e.1.owner (Signal.MonitorExit p e.1.owner e.0 x) ∷ []) [])
-      go true = All-cons Posted (to_pid e.1.owner (Signal.MonitorExit p e.1.owner e.0 x)) [] tt (All-nil Posted)
+      go : (b : Bool) → All Posted (cond b (told_end e.1.target e.1.owner e.0 x) [])
+      go true = told_home e.1.target e.1.owner e.0 x
       go false = All-nil Posted
 
-  demonitors_home : (p : Pid) (es : List (Reference × Monitor)) → All Posted (demonitors p es)
+  demonitors_home : (p : Pid) (es : List (Reference × Watch)) → All Posted (demonitors p es)
   demonitors_home p [] = All-nil Posted
   demonitors_home p (e ∷ es) =
-      All-append Posted (cond (same_pid e.1.owner p) (to_pid e.1.target (Signal.Demonitor p e.1.target e.0) ∷ []) []) (demonitors p es)
+      All-append Posted (cond (same_pid e.1.owner p) (taken_back p e.1.target e.0) []) (demonitors p es)
       (go (same_pid e.1.owner p)) (demonitors_home p es)
     where
-      go : (b : Bool) → All Posted (cond b (to_pid e.1.target (Signal.Demonitor p e.1.target e.0) ∷ []) [])
-      go true = All-cons Posted (to_pid e.1.target (Signal.Demonitor p e.1.target e.0)) [] tt (All-nil Posted)
+      go : (b : Bool) → All Posted (cond b (taken_back p e.1.target e.0) [])
+      go true = back_home p e.1.target e.0
       go false = All-nil Posted
 
   homed_finish : (p : Pid) (x : Data) (o : Work) → Homed o → Homed (end_process p x o)
@@ -132,7 +143,7 @@ module _ (n : Node) (P : Pid → Type 0) where
     message = λ p m o h k. record { local = k.local; name = k.name };
     reacted = λ p q x o h k. record { local = k.local; name = k.name };
     finished = homed_finish;
-    registers = λ r m o l h k. record { local = k.local; name = k.name };
+    registers = λ r m o l b h k. record { local = k.local; name = k.name };
     unregisters = λ r m o e h k. record { local = k.local; name = k.name };
     ended = λ r m x o e h k. record { local = k.local; name = k.name };
   }

@@ -11,7 +11,7 @@ use Rattle.dist_model.proofs.Keys.{pid_total, same_pid_true}
 use Rattle.dist_model.proofs.Moves.{cond_absent, cond_end_kept, end_set, finish_end, finish_living, put_living, set_life_living}
 use Rattle.dist_model.proofs.Seen.{end_in}
 use Rattle.dist_model.specs.Downs.{same_reference}
-use Rattle.dist_model.specs.Exits.{end_process, is_owned, is_target}
+use Rattle.dist_model.specs.Exits.{end_process, is_owned, is_bound}
 use Rattle.erl_control.specs.Ends.{receiver_of}
 use Rattle.dist_model.specs.Monitoring.{register, watch}
 use Rattle.dist_model.specs.Names.{pair_cmp, same_pid}
@@ -24,21 +24,22 @@ use Rattle.erl_term.specs.declared.term.Pid.{Pid}
 use Rattle.erl_term.specs.declared.term.Reference.{Reference}
 use Rattle.link_core.specs.declared.end.End.{End}
 use Rattle.erl_term.proofs.Order.{reference_cmp_total}
-use Rattle.monitor_core.specs.declared.monitor.Monitor.{Monitor}
+use Rattle.monitor_core.specs.declared.monitor.Watch.{Watch}
+use Rattle.monitor_core.specs.declared.monitor.Registration.{Registration}
 
 pub record Alive (node : Node) : Type 0 where
   pub ends : (p q : Pid) → end_of node p q ≢ End.None → living node p ≡ true
-  pub owners : (r : Reference) (m : Monitor) → fm.get node.watches r ≡ Some m → living node m.owner ≡ true
-  pub targets : (r : Reference) (m : Monitor) → fm.get node.registered r ≡ Some m → living node m.target ≡ true
+  pub owners : (r : Reference) (m : Watch) → fm.get node.watches r ≡ Some m → living node m.owner ≡ true
+  pub bound : (r : Reference) (m : Registration) → fm.get node.registered r ≡ Some m → living node m.held ≡ true
 
 -- nothing is recorded that wasn't, and who is living stays so
 along : (n m : Node) → ((p : Pid) → living n p ≡ true → living m p ≡ true) → m.ends ≡ n.ends
-    → ((r : Reference) (v : Monitor) → fm.get m.watches r ≡ Some v → fm.get n.watches r ≡ Some v)
-    → ((r : Reference) (v : Monitor) → fm.get m.registered r ≡ Some v → fm.get n.registered r ≡ Some v) → Alive n → Alive m
+    → ((r : Reference) (v : Watch) → fm.get m.watches r ≡ Some v → fm.get n.watches r ≡ Some v)
+    → ((r : Reference) (v : Registration) → fm.get m.registered r ≡ Some v → fm.get n.registered r ≡ Some v) → Alive n → Alive m
 along n m l e w g k = record {
   ends = λ p q h. l p (k.ends p q (λ j. h (ap (λ z. end_in (fm.get z (p, q))) e ∙ j)));
   owners = λ r v h. l v.owner (k.owners r v (w r v h));
-  targets = λ r v h. l v.target (k.targets r v (g r v h));
+  bound = λ r v h. l v.held (k.bound r v (g r v h));
 }
 
 same : (n m : Node) → m.lives ≡ n.lives → m.ends ≡ n.ends → m.watches ≡ n.watches → m.registered ≡ n.registered → Alive n → Alive m
@@ -50,7 +51,7 @@ ends_set : (x y : Pid) (v : End) (o : Work) → (living o.node x ≡ true) ⊎ (
 ends_set x y v o l k = record {
   ends = λ p q h. go p q (same_pid p x && same_pid q y) refl (λ j. h (end_set x y v o p q ∙ j)) l;
   owners = k.owners;
-  targets = k.targets;
+  bound = k.bound;
 }
   where
     go : (p q : Pid) (b : Bool) → (same_pid p x && same_pid q y) ≡ b
@@ -67,9 +68,9 @@ ends_with x r o k = record {
   owners = λ c m h. let v = retained _ _ m (sym (watches_left x o1.node.watches c) ∙ h) in
       stays m.owner (not-true (same_pid m.owner x) (sym (ap (λ z. not (is_owned x z)) v.1) ∙ v.0))
       (k.owners c m (ap (λ z. fm.get z c) (sym (all_posts_keep (λ n. n.watches) (λ n l. refl) (last_posts x r o) o)) ∙ v.1));
-  targets = λ c m h. let v = retained _ _ m (sym (registered_left x o1.node.registered c) ∙ h) in
-      stays m.target (not-true (same_pid m.target x) (sym (ap (λ z. not (is_target x z)) v.1) ∙ v.0))
-      (k.targets c m (ap (λ z. fm.get z c) (sym (all_posts_keep (λ n. n.registered) (λ n l. refl) (last_posts x r o) o)) ∙ v.1));
+  bound = λ c m h. let v = retained _ _ m (sym (registered_left x o1.node.registered c) ∙ h) in
+      stays m.held (not-true (same_pid m.held x) (sym (ap (λ z. not (is_bound x z)) v.1) ∙ v.0))
+      (k.bound c m (ap (λ z. fm.get z c) (sym (all_posts_keep (λ n. n.registered) (λ n l. refl) (last_posts x r o) o)) ∙ v.1));
 }
   where
     o1 : Work
@@ -88,26 +89,26 @@ ends_with x r o k = record {
         ∙ ap (λ z. end_in (fm.get z (p, q))) (all_posts_keep (λ n. n.ends) (λ n l. refl) (last_posts x r o) o) ∙ j)))
 
 -- a monitor comes
-watched : (c : Reference) (m : Monitor) (o : Work) → living o.node m.owner ≡ true → Alive o.node → Alive ((watch c m o).node)
+watched : (c : Reference) (m : Watch) (o : Work) → living o.node m.owner ≡ true → Alive o.node → Alive ((watch c m o).node)
 watched c m o l k = record {
   ends = k.ends;
   owners = λ r v h. go r v (same_reference r c) refl (sym (fm.get-insert reference_cmp_total o.node.watches c m r) ∙ h);
-  targets = k.targets;
+  bound = k.bound;
 }
   where
-    go : (r : Reference) (v : Monitor) (b : Bool) → same_reference r c ≡ b
+    go : (r : Reference) (v : Watch) (b : Bool) → same_reference r c ≡ b
         → cond (same_reference r c) (Some m) (fm.get o.node.watches r) ≡ Some v → living o.node v.owner ≡ true
     go r v true e h =
         let new : m ≡ v = same_Some m v (sym (ap (λ b. cond b (Some m) (fm.get o.node.watches r)) e) ∙ h) in
-        ap (λ (z : Monitor). living o.node z.owner) (sym new) ∙ l
+        ap (λ (z : Watch). living o.node z.owner) (sym new) ∙ l
     go r v false e h = k.owners r v (sym (ap (λ b. cond b (Some m) (fm.get o.node.watches r)) e) ∙ h)
 
-enrolled : (c : Reference) (m : Monitor) (o : Work) → living o.node m.target ≡ true → Alive o.node → Alive ((register c m o).node)
-enrolled c m o l k = record { ends = k.ends; owners = k.owners; targets = λ r v h. go r v (added_some o.node.registered c m r v h) }
+enrolled : (c : Reference) (m : Registration) (o : Work) → living o.node m.held ≡ true → Alive o.node → Alive ((register c m o).node)
+enrolled c m o l k = record { ends = k.ends; owners = k.owners; bound = λ r v h. go r v (added_some o.node.registered c m r v h) }
   where
-    go : (r : Reference) (v : Monitor) → (fm.get o.node.registered r ≡ Some v) ⊎ ((r ≡ c) × (m ≡ v)) → living o.node v.target ≡ true
-    go r v (inl h) = k.targets r v h
-    go r v (inr h) = ap (λ (z : Monitor). living o.node z.target) (sym h.1) ∙ l
+    go : (r : Reference) (v : Registration) → (fm.get o.node.registered r ≡ Some v) ⊎ ((r ≡ c) × (m ≡ v)) → living o.node v.held ≡ true
+    go r v (inl h) = k.bound r v h
+    go r v (inr h) = ap (λ (z : Registration). living o.node z.held) (sym h.1) ∙ l
 
 born : (m : FinMap pid_cmp Life) (p x : Pid) → is_living_life (fm.get m x) ≡ true
     → is_living_life (fm.get (fm.insert m p (Living false [])) x) ≡ true
@@ -126,7 +127,7 @@ alive_parts = record {
       (posts_keep (λ m. m.watches) (λ m l. refl) y (spelled o.node s) o)
       (posts_keep (λ m. m.registered) (λ m l. refl) y (spelled o.node s) o) k;
   end_set = λ p q e o l k. ends_set p q e o l k;
-  drew = λ d o h k. record { ends = k.ends; owners = k.owners; targets = k.targets };
+  drew = λ d o h k. record { ends = k.ends; owners = k.owners; bound = k.bound };
   life_set = λ p l o h k. along o.node _
       (λ x j. set_life_living o.node.lives p l x (λ e. h ∙ ap (living o.node) (sym (same_pid_true x p e))) ∙ j)
       refl (λ r v j. j) (λ r v j. j) k;
@@ -147,7 +148,7 @@ pub all_alive : (m : Node) → m.ends ≡ fm.empty → m.watches ≡ fm.empty �
 all_alive m e w g = record {
   ends = λ p q h. absurd (h (ap (λ z. end_in (fm.get z (p, q))) e ∙ ap end_in (fm.get-empty pair_cmp (p, q))));
   owners = λ r v h. absurd (none-some v (sym (ap (λ z. fm.get z r) w ∙ fm.get-empty reference_cmp r) ∙ h));
-  targets = λ r v h. absurd (none-some v (sym (ap (λ z. fm.get z r) g ∙ fm.get-empty reference_cmp r) ∙ h));
+  bound = λ r v h. absurd (none-some v (sym (ap (λ z. fm.get z r) g ∙ fm.get-empty reference_cmp r) ∙ h));
 }
 
 -- another state of the sides, of the own list, or of what was drawn

@@ -12,24 +12,26 @@ use Rattle.dist_model.specs.declared.command.Command.{Command}
 use Rattle.dist_model.specs.Exits.{end_process}
 use Rattle.dist_model.specs.Items.{Item}
 use Rattle.dist_model.specs.Losses.{least_record, link_to, sweep_record}
-use Rattle.dist_model.specs.Monitoring.{demonitor_by, register, unregister, unwatch, watch}
+use Rattle.dist_model.specs.Monitoring.{demonitor_by, pid_watch, register, unregister, unwatch, watch}
 use Rattle.dist_model.specs.Names.{Name, same_pid}
 use Rattle.dist_model.specs.Node.{Life, Node, is_living_life, living, reaches}
 use Rattle.dist_model.specs.Taking.{take_item}
-use Rattle.dist_model.specs.Work.{Addressed, Work, at_work, draw, post, put, report, set_end, set_life, to_pid}
+use Rattle.dist_model.specs.Work.{Addressed, Work, at_work, draw, post, post_all, put, report, set_end, set_life, to_pid}
 use Rattle.dist_model.specs.declared.report.Effect.{Effect}
 use Rattle.erl_control.specs.declared.signal.Signal.{Signal}
 use Rattle.erl_names.specs.Ids.{pid_of, reference_of}
 use Rattle.erl_names.specs.Minted.{id_of}
-use Rattle.erl_term.specs.Data.{Data}
+use Rattle.erl_term.specs.Data.{Data, pid}
 use Rattle.erl_term.specs.declared.refusal.Refusal.{Refusal}
 use Rattle.erl_term.specs.declared.term.Pid.{Pid}
 use Rattle.erl_term.specs.declared.term.Reference.{Reference}
 use Rattle.exit_core.specs.Messages.{down_term}
 use Rattle.link_core.specs.News.{noconnection}
 use Rattle.link_core.specs.declared.end.End.{End}
-use Rattle.monitor_core.specs.Monitors.{monitor_of}
-use Rattle.monitor_core.specs.declared.monitor.Monitor.{Monitor}
+use Rattle.monitor_core.specs.declared.monitor.Target.{Target}
+use Rattle.monitor_core.specs.declared.monitor.Watch.{Watch}
+use Rattle.dist_model.specs.Telling.{object, taken_back}
+use Rattle.monitor_core.specs.declared.monitor.Registration.{Registration}
 
 -- the parts of an event, but for what it does to sides
 pub record Parts (X : Work → Type 0) : Type 0 where
@@ -41,9 +43,9 @@ pub record Parts (X : Work → Type 0) : Type 0 where
   pub message : (p : Pid) (m : Data) (o : Work) → X o → X (put p m o)
   pub reacted : (p q : Pid) (x : Data) (o : Work) → X o → X (report (Effect.LinkExit p q x) o)
   pub finished : (p : Pid) (x : Data) (o : Work) → X o → X (end_process p x o)
-  pub registers : (r : Reference) (m : Monitor) (o : Work) → living o.node m.target ≡ true → X o → X (register r m o)
+  pub registers : (r : Reference) (m : Registration) (o : Work) → living o.node m.held ≡ true → X o → X (register r m o)
   pub unregisters : (r : Reference) (o : Work) → X o → X (unregister r o)
-  pub watches : (r : Reference) (m : Monitor) (o : Work) → living o.node m.owner ≡ true → X o → X (watch r m o)
+  pub watches : (r : Reference) (m : Watch) (o : Work) → living o.node m.owner ≡ true → X o → X (watch r m o)
   pub unwatches : (r : Reference) (o : Work) → X o → X (unwatch r o)
 
 abbrev any_rules : Rules
@@ -66,9 +68,9 @@ module _ (X : Work → Type 0) (c : Parts X) where
     message = λ p m o h k. c.message p m o k;
     reacted = λ p q x o h k. c.reacted p q x o k;
     finished = c.finished;
-    registers = λ r m o l h k. c.registers r m o l k;
+    registers = λ r m o l b h k. c.registers r m o l k;
     unregisters = λ r m o e h k. c.unregisters r o k;
-    ended = λ r m x o e h k. c.message m.owner (down_term r m.target x) (unwatch r o) (c.unwatches r o k);
+    ended = λ r m x o e h k. c.message m.owner (down_term r (object m.target) x) (unwatch r o) (c.unwatches r o k);
   }
 
   pub item_keeps : (y : Name) (i : Item) (o : Work) → X o → X (take_item y i o)
@@ -78,7 +80,7 @@ module _ (X : Work → Type 0) (c : Parts X) where
     sent = λ p m pay e. c.message p m o k;
     nobody = λ p q r pay e l. tt;
     joins = λ p q r pay e l. tt;
-    drops = λ p q r pay e l. tt;
+    drops = λ p q r pay m e l s. tt;
     tells = λ p q r x pay e l. tt;
   }) k
 
@@ -87,14 +89,18 @@ module _ (X : Work → Type 0) (c : Parts X) where
       let o = draw kind.Reference (at_work n) in
       let r = reference_of n.mint id in
       cond_kept any_rules X closed (reaches o.node q.node) _ _
-      (λ e. c.posted (to_pid q (Signal.Monitor p q r)) (watch r (monitor_of p q) o) (c.watches r (monitor_of p q) o l (c.drew kind.Reference
+      (λ e. c.posted (to_pid q (Signal.Monitor p q r)) (watch r (pid_watch p q) o) (c.watches r (pid_watch p q) o l (c.drew kind.Reference
       (at_work n) (λ e. cc) k)))
-      (λ e. c.message p (down_term r q noconnection) o (c.drew kind.Reference (at_work n) (λ e. cc) k))))
+      (λ e. c.message p (down_term r (pid q) noconnection) o (c.drew kind.Reference (at_work n) (λ e. cc) k))))
 
-  demonitors : (v : Option Monitor) (p : Pid) (r : Reference) (o : Work) → X o → IfGoes (demonitor_by v p r o) X
+  back_keeps : (t : Target) (p : Pid) (r : Reference) (o : Work) → X o → X (post_all (taken_back p t r) o)
+  back_keeps (Target.Pid q) p r o k = c.posted (to_pid q (Signal.Demonitor p q r)) o k
+  back_keeps (Target.Name name node) p r o k = k
+
+  demonitors : (v : Option Watch) (p : Pid) (r : Reference) (o : Work) → X o → IfGoes (demonitor_by v p r o) X
   demonitors None p r o k = tt
   demonitors (Some m) p r o k = if_cond (same_pid m.owner p) _ Refusal.NotTheOwner X
-      (λ h. c.posted (to_pid m.target (Signal.Demonitor p m.target r)) (unwatch r o) (c.unwatches r o k))
+      (λ h. back_keeps m.target p r (unwatch r o) (c.unwatches r o k))
 
   others : (n : Node) (d : Command) → ((p q : Pid) → d ≡ Command.Monitor p q → ⊥) → ((p : Pid) (r : Reference)
       → d ≡ Command.Demonitor p r → ⊥)

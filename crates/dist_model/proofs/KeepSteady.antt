@@ -79,7 +79,7 @@ steady_of n k a = record {
       (k t u s v hs hv p (attempt_there s.state es) (attempt_there v.state ev));
   ends = a.ends;
   owners = a.owners;
-  targets = a.targets;
+  bound = a.bound;
 }
   where
     pick : (t u : TrunkId) (s v : TrunkSide) → (beside s.state v.state ≡ true → ⊥) → (t ≡ u) ⊎ (beside s.state v.state ≡ true) → t ≡ u
@@ -160,7 +160,7 @@ pub steady_kept : (names : List Name) (n : Node) (e : NodeEvent) (a : Answer) (o
     → Steady o.node
 steady_kept names n e a o k h = steady_of o.node
     (if_accepted KeepSingle.X (at_node names n e) a o h (single_kept names n e (single_of n k)))
-    (if_accepted Y (at_node names n e) a o h (alive_kept names n e (record { ends = k.ends; owners = k.owners; targets = k.targets })))
+    (if_accepted Y (at_node names n e) a o h (alive_kept names n e (record { ends = k.ends; owners = k.owners; bound = k.bound })))
 
 pub steady_new : (x : Name) (setup : Setup) → Steady (new_node x setup)
 steady_new x setup = steady_of (new_node x setup)

@@ -26,9 +26,13 @@ use Rattle.erl_term.specs.declared.term.Pid.{Pid}
 use Rattle.erl_term.specs.declared.term.Reference.{Reference}
 use Rattle.exit_core.specs.Messages.{down_term}
 use Rattle.erl_term.specs.Order.{reference_cmp}
-use Rattle.monitor_core.specs.declared.monitor.Monitor.{Monitor}
+use Rattle.monitor_core.specs.declared.monitor.Target.{Target}
+use Rattle.monitor_core.specs.declared.monitor.Watch.{Watch}
+use Rattle.monitor_core.specs.declared.monitor.Registration.{Registration}
+use Rattle.dist_model.specs.Telling.{object, told_end}
+use Rattle.dist_model.proofs.Entries.{IsBound}
 
-abbrev pub down : Monitor → Data → Down
+abbrev pub down : Watch → Data → Down
 down m x = record { owner = m.owner; target = m.target; info = x }
 
 -- MONITOR_P, and MONITOR_P_EXIT, of this reference
@@ -78,15 +82,21 @@ pub quietly_downs : (k : Reference) (fs gs : List (Effect Item)) → Quietly fs 
 quietly_downs k fs gs Nothing = refl
 quietly_downs k fs gs (Sends hs t y i q) = no_more k hs (Effect.Sent t y i ∷ []) refl ∙ quietly_downs k fs hs q
 
--- what a DOWN says
-pub down_said : (k : Reference) (r : Reference) (p q : Pid) (x : Data)
-    → down_in k p (down_term r q x) ≡ cond (same_reference k r) ((record { owner = p; target = q; info = x }) ∷ []) []
-down_said k r p q x = go (same_reference k r)
+down_by : (k : Reference) (r : Reference) (p : Pid) (q : Target) (x : Data)
+    → ◌≡◌ {A = List Down} (cond (same_reference k r && true) ((record { owner = p; target = q; info = x }) ∷ []) [])
+    (cond (same_reference k r) ((record { owner = p; target = q; info = x }) ∷ []) [])
+down_by k r p q x = go (same_reference k r)
   where
     go : (b : Bool) → ◌≡◌ {A = List Down} (cond (b && true) ((record { owner = p; target = q; info = x }) ∷ []) [])
         (cond b ((record { owner = p; target = q; info = x }) ∷ []) [])
     go true = refl
     go false = refl
+
+-- the target and the reason of a DOWN
+pub down_said : (k : Reference) (r : Reference) (p : Pid) (q : Target) (x : Data)
+    → down_in k p (down_term r (object q) x) ≡ cond (same_reference k r) ((record { owner = p; target = q; info = x }) ∷ []) []
+down_said k r p (Target.Pid q) x = down_by k r p (Target.Pid q) x
+down_said k r p (Target.Name name node) x = down_by k r p (Target.Name name node) x
 
 -- a signal that goes to y
 abbrev pub any_to : (Item → Bool) → Name → List Addressed → Bool
@@ -186,29 +196,34 @@ lands_all f blind n y (s ∷ ss) o sd nm h = go (f (Signalled s.signal false) &&
     go false e h k = k h
 
 -- one that ends tells the owner of each registration
-pub told_owner : (p : Pid) (x : Data) (k : Reference) (m : Monitor) (es : List (Reference × Monitor))
-    → find reference_cmp k es ≡ Some m → same_pid m.target p ≡ true
+pub told_owner : (p : Pid) (x : Data) (k : Reference) (m : Registration) (es : List (Reference × Registration))
+    → find reference_cmp k es ≡ Some m → same_pid m.held p ≡ true → IsBound m
     → any_to (is_end k) m.owner.node (monitor_exits p x es) ≡ true
-told_owner p x k m [] h t = absurd (none-some m h)
-told_owner p x k m (e ∷ es) h t =
-    any_to_append (is_end k) m.owner.node (cond (same_pid e.1.target p) (to_pid e.1.owner (Signal.MonitorExit p e.1.owner e.0 x) ∷ []) [])
-    (monitor_exits p x es) ∙ go (same_reference k e.0) refl h (λ i. told_owner p x k m es i t)
+told_owner p x k m [] h t b = absurd (none-some m h)
+told_owner p x k m (e ∷ es) h t b =
+    any_to_append (is_end k) m.owner.node (cond (same_pid e.1.held p) (told_end e.1.target e.1.owner e.0 x) [])
+    (monitor_exits p x es) ∙ go (same_reference k e.0) refl h (λ i. told_owner p x k m es i t b)
   where
-    first : (b : Bool) → same_pid e.1.target p ≡ b → b ≡ true → same_reference k e.0 ≡ true
-        → same_name m.owner.node e.1.owner.node ≡ true
-        → any_to (is_end k) m.owner.node (cond b (to_pid e.1.owner (Signal.MonitorExit p e.1.owner e.0 x) ∷ []) []) ≡ true
-    first true i j a c = ap (λ b. (b && same_name m.owner.node e.1.owner.node) || false) a ∙ ap (λ b. b || false) c
+    -- this one's owner is told
+    told : same_reference k e.0 ≡ true → e.1 ≡ m → any_to (is_end k) m.owner.node (told_end e.1.target e.1.owner e.0 x) ≡ true
+    told a c =
+        ap (λ (z : Registration). any_to (is_end k) m.owner.node (told_end z.target z.owner e.0 x)) c
+        ∙ ap (λ z. any_to (is_end k) m.owner.node (told_end z m.owner e.0 x)) b
+        ∙ ap (λ c. (c && same_name m.owner.node m.owner.node) || false) a
+        ∙ ap (λ c. c || false) (same_name_is m.owner.node m.owner.node refl)
+
+    first : (c : Bool) → same_pid e.1.held p ≡ c → c ≡ true → same_reference k e.0 ≡ true → e.1 ≡ m
+        → any_to (is_end k) m.owner.node (cond c (told_end e.1.target e.1.owner e.0 x) []) ≡ true
+    first true i j a c = told a c
     first false i j a c = cc
 
-    go : (b : Bool) → same_reference k e.0 ≡ b → cond b (Some e.1) (find reference_cmp k es) ≡ Some m
+    go : (c : Bool) → same_reference k e.0 ≡ c → cond c (Some e.1) (find reference_cmp k es) ≡ Some m
         → (find reference_cmp k es ≡ Some m → any_to (is_end k) m.owner.node (monitor_exits p x es) ≡ true)
-        → (any_to (is_end k) m.owner.node (cond (same_pid e.1.target p) (to_pid e.1.owner (Signal.MonitorExit p e.1.owner e.0 x) ∷ []) [])
+        → (any_to (is_end k) m.owner.node (cond (same_pid e.1.held p) (told_end e.1.target e.1.owner e.0 x) [])
         || any_to (is_end k) m.owner.node (monitor_exits p x es)) ≡ true
     go true i h f = let c : e.1 ≡ m = same_Some e.1 m h in
-        ap (λ b. b || any_to (is_end k) m.owner.node (monitor_exits p x es)) (first (same_pid e.1.target p) refl
-        (ap (λ (z : Monitor). same_pid z.target p) c ∙ t) i
-        (same_name_is m.owner.node e.1.owner.node (ap (λ (z : Monitor). z.owner.node) (sym c))))
+        ap (λ d. d || any_to (is_end k) m.owner.node (monitor_exits p x es)) (first (same_pid e.1.held p) refl
+        (ap (λ (z : Registration). same_pid z.held p) c ∙ t) i c)
     go false i h f =
-        or_right
-        (any_to (is_end k) m.owner.node (cond (same_pid e.1.target p) (to_pid e.1.owner (Signal.MonitorExit p e.1.owner e.0 x) ∷ []) []))
+        or_right (any_to (is_end k) m.owner.node (cond (same_pid e.1.held p) (told_end e.1.target e.1.owner e.0 x) []))
         (any_to (is_end k) m.owner.node (monitor_exits p x es)) (f h)

@@ -9,7 +9,7 @@ use Rattle.std.specs.Option.{is_some}
 use Rattle.std.specs.FinMap as fm
 use Rattle.dist_model.proofs.Envelopes.{outgoing, sent_in-push, sent_in-silent, sent_by, sent_in, sent_in-append}
 use Rattle.dist_model.proofs.Calls.{by_test}
-use Rattle.dist_model.proofs.Entries.{same_reference_true}
+use Rattle.dist_model.proofs.Entries.{IsBound, same_reference_true}
 use Rattle.dist_model.proofs.Founded.{Nothing, added_some, all_posts_keep, posts_keep, quietly_all}
 use Rattle.dist_model.proofs.Founded.{registered_left, removed_some, watches_left, retained}
 use Rattle.dist_model.proofs.HandshakeParts.{Turned}
@@ -21,7 +21,7 @@ use Rattle.dist_model.proofs.Trunks.{has}
 use Rattle.dist_model.specs.Downs.{down_in, downs_in, same_reference}
 use Rattle.dist_model.proofs.LastSignals.{exits_in}
 use Rattle.dist_model.proofs.EndOfProcess.{is_living_kept, is_living_cond}
-use Rattle.dist_model.specs.Exits.{buried, demonitors, end_process, is_owned, is_target, monitor_exits}
+use Rattle.dist_model.specs.Exits.{buried, demonitors, end_process, is_owned, is_bound, monitor_exits}
 use Rattle.dist_model.specs.Handshake.{with_side, write}
 use Rattle.dist_model.specs.Items.{Handshake, Item}
 use Rattle.erl_control.specs.Ends.{receiver_of}
@@ -39,39 +39,41 @@ use Rattle.erl_term.specs.declared.term.Reference.{Reference}
 use Rattle.exit_core.specs.Messages.{down_term}
 use Rattle.erl_term.proofs.Order.{reference_cmp_total}
 use Rattle.monitor_core.specs.Monitors.{added}
-use Rattle.monitor_core.specs.declared.monitor.Monitor.{Monitor}
 use Rattle.dist_model.proofs.Lands.{Lands, all_local_grows, all_sent_grows, any_to, any_to_append, at_place_append, down, end_blind}
 use Rattle.dist_model.proofs.Lands.{down_said, downs_append, has_first, is_end, lands_all, no_more, quietly_downs, told_owner}
+use Rattle.monitor_core.specs.declared.monitor.Watch.{Watch}
+use Rattle.monitor_core.specs.declared.monitor.Registration.{Registration}
+use Rattle.dist_model.specs.Telling.{object}
 
 cond_living : (b : Bool) (x : Data) (l : Option Life) → is_living_life l ≡ false → is_living_life (cond b (Some (Ended x)) l) ≡ false
 cond_living true x l h = refl
 cond_living false x l h = h
 
-module _ (n : Node) (Tells : Reference → Monitor → Data → Type 0) (Joins : Reference → Monitor → Type 0)
-    (Drops : Reference → Monitor → Type 0)
-    (were : (k : Reference) (m : Monitor) → fm.get n.registered k ≡ Some m → living n m.target ≡ true) where
+module _ (n : Node) (Tells : Reference → Watch → Data → Type 0) (Joins : Reference → Registration → Type 0)
+    (Drops : Reference → Registration → Type 0)
+    (were : (k : Reference) (m : Registration) → fm.get n.registered k ≡ Some m → (living n m.held ≡ true) × IsBound m) where
   -- the watch stays, or leaves with its owner, or is spent on a DOWN
   pub data Fate (o : Work) (k : Reference) : Type 0 where
     Same : fm.get o.node.watches k ≡ fm.get n.watches k → downs_in k o.effects ≡ [] → Fate o k
-    Left : (u : Monitor) → fm.get n.watches k ≡ Some u → fm.get o.node.watches k ≡ None → living o.node u.owner ≡ false
+    Left : (u : Watch) → fm.get n.watches k ≡ Some u → fm.get o.node.watches k ≡ None → living o.node u.owner ≡ false
         → downs_in k o.effects ≡ [] → Fate o k
-    Spent : (u : Monitor) (x : Data) → fm.get n.watches k ≡ Some u → fm.get o.node.watches k ≡ None → Tells k u x
+    Spent : (u : Watch) (x : Data) → fm.get n.watches k ≡ Some u → fm.get o.node.watches k ≡ None → Tells k u x
         → downs_in k o.effects ≡ down u x ∷ [] → Fate o k
 
   pub record Turns (o : Work) : Type 0 where
     pub fates : (k : Reference) → Fate o k
     pub dead : (p : Pid) → living n p ≡ false → living o.node p ≡ false
-    pub enrolled : (k : Reference) (m : Monitor) → fm.get o.node.registered k ≡ Some m → (living o.node m.target ≡ true)
+    pub enrolled : (k : Reference) (m : Registration) → fm.get o.node.registered k ≡ Some m → (living o.node m.held ≡ true) × IsBound m
         × ((fm.get n.registered k ≡ Some m) ⊎ Joins k m)
     -- a registration stays, or its owner is told, or it is dropped
-    pub leaving : (k : Reference) (m : Monitor) → fm.get n.registered k ≡ Some m → (fm.get o.node.registered k ≡ Some m)
+    pub leaving : (k : Reference) (m : Registration) → fm.get n.registered k ≡ Some m → (fm.get o.node.registered k ≡ Some m)
         ⊎ (Lands (is_end k) n m.owner.node o ⊎ Drops k m)
     pub local : (f : Item → Bool) → has f n.local ≡ true → has f o.node.local ≡ true
     pub name : o.node.mint.name ≡ n.mint.name
     pub creation : o.node.mint.creation ≡ n.mint.creation
     pub references : o.node.mint.references ≡ n.mint.references
     pub pids : o.node.mint.pids ≡ n.mint.pids
-    pub owners : (k : Reference) (u : Monitor) → fm.get o.node.watches k ≡ Some u → living o.node u.owner ≡ true
+    pub owners : (k : Reference) (u : Watch) → fm.get o.node.watches k ≡ Some u → living o.node u.owner ≡ true
 
   -- a part that touches no monitor
   pub record Aside (o o' : Work) : Type 0 where
@@ -109,7 +111,7 @@ module _ (n : Node) (Tells : Reference → Monitor → Data → Type 0) (Joins :
   turns_aside o o' a k = record {
     fates = λ j. fate_aside o o' j (a.watches j) (a.downs j) (λ p h. a.lives p ∙ h) (k.fates j);
     dead = λ p h. a.lives p ∙ k.dead p h;
-    enrolled = λ j m h. let v = k.enrolled j m (sym (a.registered j) ∙ h) in (a.lives m.target ∙ v.0, v.1);
+    enrolled = λ j m h. let v = k.enrolled j m (sym (a.registered j) ∙ h) in (a.lives m.held ∙ v.0, v.1, v.2);
     leaving = λ j m h. go j m (k.leaving j m h);
     local = λ f h. a.local f (k.local f h);
     name = a.name ∙ k.name;
@@ -119,7 +121,7 @@ module _ (n : Node) (Tells : Reference → Monitor → Data → Type 0) (Joins :
     owners = λ j u h. a.lives u.owner ∙ k.owners j u (sym (a.watches j) ∙ h);
   }
     where
-      go : (j : Reference) (m : Monitor) → (fm.get o.node.registered j ≡ Some m)
+      go : (j : Reference) (m : Registration) → (fm.get o.node.registered j ≡ Some m)
           ⊎ (Lands (is_end j) n m.owner.node o ⊎ Drops j m) → (fm.get o'.node.registered j ≡ Some m)
           ⊎ (Lands (is_end j) n m.owner.node o' ⊎ Drops j m)
       go j m (inl h) = inl (a.registered j ∙ h)
@@ -189,17 +191,18 @@ module _ (n : Node) (Tells : Reference → Monitor → Data → Type 0) (Joins :
       (lives_same p (delivered (fm.get o.node.lives p) m) o (living_received (fm.get o.node.lives p) m)) refl refl refl refl refl
 
   -- a process ends: posts, then its records go
-  buried_turns : (p : Pid) (x : Data) (o : Work) → ((k : Reference) (m : Monitor) → fm.get o.node.registered k ≡ Some m
-      → same_pid m.target p ≡ true → Lands (is_end k) n m.owner.node o) → Turns o → Turns (buried p x o)
+  buried_turns : (p : Pid) (x : Data) (o : Work) → ((k : Reference) (m : Registration) → fm.get o.node.registered k ≡ Some m
+      → same_pid m.held p ≡ true → Lands (is_end k) n m.owner.node o) → Turns o → Turns (buried p x o)
   buried_turns p x o tell k = record {
     fates = λ j. fate j (k.fates j);
     dead = λ q h. lived q ∙ cond_living (same_pid q p) x (fm.get o.node.lives q) (k.dead q h);
-    enrolled = λ j m h. let v = retained (not (is_target p (fm.get o.node.registered j))) (fm.get o.node.registered j) m
+    enrolled = λ j m h. let v = retained (not (is_bound p (fm.get o.node.registered j))) (fm.get o.node.registered j) m
         (sym (registered_left p o.node.registered j) ∙ h) in
         let w = k.enrolled j m v.1 in (
-          lived m.target ∙ is_living_kept (same_pid m.target p) x (fm.get o.node.lives m.target)
-              (not-true (same_pid m.target p) (ap (λ z. not (is_target p z)) (sym v.1) ∙ v.0)) ∙ w.0,
+          lived m.held ∙ is_living_kept (same_pid m.held p) x (fm.get o.node.lives m.held)
+              (not-true (same_pid m.held p) (ap (λ z. not (is_bound p z)) (sym v.1) ∙ v.0)) ∙ w.0,
           w.1,
+          w.2,
         );
     leaving = λ j m h. go j m (k.leaving j m h);
     local = k.local;
@@ -213,7 +216,7 @@ module _ (n : Node) (Tells : Reference → Monitor → Data → Type 0) (Joins :
       lived : (q : Pid) → living ((buried p x o).node) q ≡ is_living_life (cond (same_pid q p) (Some (Ended x)) (fm.get o.node.lives q))
       lived q = ap is_living_life (fm.get-insert pid_total o.node.lives p (Ended x) q)
 
-      owner : (j : Reference) (u : Monitor) (v : Option Monitor) → fm.get o.node.watches j ≡ v
+      owner : (j : Reference) (u : Watch) (v : Option Watch) → fm.get o.node.watches j ≡ v
           → fm.get ((buried p x o).node.watches) j ≡ Some u → living ((buried p x o).node) u.owner ≡ true
       owner j u v e h =
           let b =
@@ -226,8 +229,8 @@ module _ (n : Node) (Tells : Reference → Monitor → Data → Type 0) (Joins :
       quiet j = no_more j o.effects (Effect.Ended p x ∷ []) refl
 
       -- the watch of one who doesn't own it stays, and with its owner it goes
-      split : (j : Reference) (v : Option Monitor) → fm.get o.node.watches j ≡ v → (fm.get ((buried p x o).node.watches) j
-          ≡ fm.get o.node.watches j) ⊎ ((u : Monitor) × (fm.get o.node.watches j ≡ Some u) × (same_pid u.owner p ≡ true)
+      split : (j : Reference) (v : Option Watch) → fm.get o.node.watches j ≡ v → (fm.get ((buried p x o).node.watches) j
+          ≡ fm.get o.node.watches j) ⊎ ((u : Watch) × (fm.get o.node.watches j ≡ Some u) × (same_pid u.owner p ≡ true)
           × (fm.get ((buried p x o).node.watches) j ≡ None))
       split j None h = inl (watches_left p o.node.watches j ∙ ap (λ v. cond (not (is_owned p v)) v None) h ∙ sym h)
       split j (Some u) h = by_test _ (same_pid u.owner p)
@@ -246,25 +249,25 @@ module _ (n : Node) (Tells : Reference → Monitor → Data → Type 0) (Joins :
       fate : (j : Reference) → Fate o j → Fate (buried p x o) j
       fate j f = pick f (split j (fm.get o.node.watches j) refl)
         where
-          gone : (u : Monitor) → fm.get o.node.watches j ≡ Some u → same_pid u.owner p ≡ true
+          gone : (u : Watch) → fm.get o.node.watches j ≡ Some u → same_pid u.owner p ≡ true
               → fm.get ((buried p x o).node.watches) j ≡ None → Fate o j → Fate (buried p x o) j
           gone u h e w (Same a b) =
               Left u (sym a ∙ h) w (lived u.owner ∙ is_living_cond (same_pid u.owner p) x (fm.get o.node.lives u.owner) e) (quiet j ∙ b)
           gone u h e w (Left v a b c d) = absurd (none-some u (sym b ∙ h))
           gone u h e w (Spent v y a b t d) = absurd (none-some u (sym b ∙ h))
 
-          pick : Fate o j → (fm.get ((buried p x o).node.watches) j ≡ fm.get o.node.watches j) ⊎ ((u : Monitor)
+          pick : Fate o j → (fm.get ((buried p x o).node.watches) j ≡ fm.get o.node.watches j) ⊎ ((u : Watch)
               × (fm.get o.node.watches j ≡ Some u) × (same_pid u.owner p ≡ true)
               × (fm.get ((buried p x o).node.watches) j ≡ None)) → Fate (buried p x o) j
           pick f (inl w) = fate_aside o (buried p x o) j w (quiet j) deader f
           pick f (inr w) = gone w.0 w.1 w.2 w.3 f
 
-      go : (j : Reference) (m : Monitor) → (fm.get o.node.registered j ≡ Some m)
+      go : (j : Reference) (m : Registration) → (fm.get o.node.registered j ≡ Some m)
           ⊎ (Lands (is_end j) n m.owner.node o ⊎ Drops j m) → (fm.get ((buried p x o).node.registered) j ≡ Some m)
           ⊎ (Lands (is_end j) n m.owner.node (buried p x o) ⊎ Drops j m)
-      go j m (inl h) = by_test _ (same_pid m.target p)
+      go j m (inl h) = by_test _ (same_pid m.held p)
           (λ e. inr (inl (lands_silent (is_end j) m.owner.node (Effect.Ended p x) o ((buried p x o).node) refl refl (tell j m h e))))
-          (λ e. inl (registered_left p o.node.registered j ∙ ap (λ v. cond (not (is_target p v)) v None) h
+          (λ e. inl (registered_left p o.node.registered j ∙ ap (λ v. cond (not (is_bound p v)) v None) h
           ∙ ap (λ b. cond (not b) (Some m) None) e))
       go j m (inr (inl h)) = inr (inl (lands_silent (is_end j) m.owner.node (Effect.Ended p x) o ((buried p x o).node) refl refl h))
       go j m (inr (inr h)) = inr (inr h)
@@ -278,43 +281,45 @@ module _ (n : Node) (Tells : Reference → Monitor → Data → Type 0) (Joins :
   last_words p x o =
       exits_in p x (fm.entries o.node.ends) ++ monitor_exits p x (fm.entries o.node.registered) ++ demonitors p (fm.entries o.node.watches)
 
-  owner_hears : (p : Pid) (x : Data) (o : Work) (j : Reference) (m : Monitor) → fm.get o.node.registered j ≡ Some m
-      → same_pid m.target p ≡ true → any_to (is_end j) m.owner.node (last_words p x o) ≡ true
-  owner_hears p x o j m h e =
+  owner_hears : (p : Pid) (x : Data) (o : Work) (j : Reference) (m : Registration) → fm.get o.node.registered j ≡ Some m
+      → same_pid m.held p ≡ true → IsBound m → any_to (is_end j) m.owner.node (last_words p x o) ≡ true
+  owner_hears p x o j m h e b =
       any_to_append (is_end j) m.owner.node
       (exits_in p x (fm.entries o.node.ends) ++ monitor_exits p x (fm.entries o.node.registered))
       (demonitors p (fm.entries o.node.watches))
       ∙ or_left _ (any_to (is_end j) m.owner.node (demonitors p (fm.entries o.node.watches)))
       (any_to_append (is_end j) m.owner.node (exits_in p x (fm.entries o.node.ends)) (monitor_exits p x (fm.entries o.node.registered))
       ∙ or_right (any_to (is_end j) m.owner.node (exits_in p x (fm.entries o.node.ends))) _
-      (told_owner p x j m (fm.entries o.node.registered) (sym (fm.get-entries o.node.registered j) ∙ h) e))
+      (told_owner p x j m (fm.entries o.node.registered) (sym (fm.get-entries o.node.registered j) ∙ h) e b))
 
   finish_turns : (p : Pid) (x : Data) (o : Work) → Core o → Core (end_process p x o)
   finish_turns p x o k = record {
     turns = buried_turns p x (post_all (last_words p x o) o)
-        (λ j m h e. lands_all (is_end j) (end_blind j) n m.owner.node (last_words p x o) o k.sides k.turns.name (owner_hears p x o j m
-        (ap (λ z. fm.get z j) (sym (all_posts_keep (λ v. v.registered) (λ v l. refl) (last_words p x o) o)) ∙ h) e))
+        (λ j m h e.
+        let r = ap (λ z. fm.get z j) (sym (all_posts_keep (λ v. v.registered) (λ v l. refl) (last_words p x o) o)) ∙ h in
+        lands_all (is_end j) (end_blind j) n m.owner.node (last_words p x o) o k.sides k.turns.name
+        (owner_hears p x o j m r e (k.turns.enrolled j m r).1))
         (turns_aside o (post_all (last_words p x o) o) (posts_aside (last_words p x o) o) k.turns);
     sides = all_posts_keep (λ m. m.sides) (λ m l. refl) (last_words p x o) o ∙ k.sides;
   }
 
   -- a DOWN is put, and the watch goes
-  told_still : (j r : Reference) (m : Monitor) (x : Data) (o : Work) (u : Monitor) → (fm.get o.node.registered j ≡ Some u)
+  told_still : (j r : Reference) (m : Watch) (x : Data) (o : Work) (u : Registration) → (fm.get o.node.registered j ≡ Some u)
       ⊎ (Lands (is_end j) n u.owner.node o ⊎ Drops j u)
       → (fm.get o.node.registered j ≡ Some u)
-      ⊎ (Lands (is_end j) n u.owner.node (put m.owner (down_term r m.target x) (unwatch r o)) ⊎ Drops j u)
+      ⊎ (Lands (is_end j) n u.owner.node (put m.owner (down_term r (object m.target) x) (unwatch r o)) ⊎ Drops j u)
   told_still j r m x o u (inl h) = inl h
   told_still j r m x o u (inr (inl h)) =
-      inr (inl (lands_silent (is_end j) u.owner.node (Effect.Put m.owner (down_term r m.target x)) o
-      ((put m.owner (down_term r m.target x) (unwatch r o)).node) refl refl h))
+      inr (inl (lands_silent (is_end j) u.owner.node (Effect.Put m.owner (down_term r (object m.target) x)) o
+      ((put m.owner (down_term r (object m.target) x) (unwatch r o)).node) refl refl h))
   told_still j r m x o u (inr (inr h)) = inr (inr h)
 
-  ended_turns : (r : Reference) (m : Monitor) (x : Data) (o : Work) → fm.get o.node.watches r ≡ Some m → Tells r m x → Turns o
-      → Turns (put m.owner (down_term r m.target x) (unwatch r o))
+  ended_turns : (r : Reference) (m : Watch) (x : Data) (o : Work) → fm.get o.node.watches r ≡ Some m → Tells r m x → Turns o
+      → Turns (put m.owner (down_term r (object m.target) x) (unwatch r o))
   ended_turns r m x o h t k = record {
     fates = λ j. fate j (k.fates j);
     dead = λ q d. lived q ∙ k.dead q d;
-    enrolled = λ j v e. let w = k.enrolled j v e in (lived v.target ∙ w.0, w.1);
+    enrolled = λ j v e. let w = k.enrolled j v e in (lived v.held ∙ w.0, w.1, w.2);
     leaving = λ j v e. told_still j r m x o v (k.leaving j v e);
     local = k.local;
     name = k.name;
@@ -324,30 +329,30 @@ module _ (n : Node) (Tells : Reference → Monitor → Data → Type 0) (Joins :
     owners = λ j u e. lived u.owner ∙ k.owners j u (removed_some o.node.watches r j u e);
   }
     where
-      lived : (q : Pid) → living ((put m.owner (down_term r m.target x) (unwatch r o)).node) q ≡ living o.node q
+      lived : (q : Pid) → living ((put m.owner (down_term r (object m.target) x) (unwatch r o)).node) q ≡ living o.node q
       lived q =
-          lives_same m.owner (delivered (fm.get o.node.lives m.owner) (down_term r m.target x)) o
-          (living_received (fm.get o.node.lives m.owner) (down_term r m.target x)) q
+          lives_same m.owner (delivered (fm.get o.node.lives m.owner) (down_term r (object m.target) x)) o
+          (living_received (fm.get o.node.lives m.owner) (down_term r (object m.target) x)) q
 
-      said : (j : Reference) → downs_in j ((put m.owner (down_term r m.target x) (unwatch r o)).effects)
+      said : (j : Reference) → downs_in j ((put m.owner (down_term r (object m.target) x) (unwatch r o)).effects)
           ≡ downs_in j o.effects ++ cond (same_reference j r) (down m x ∷ []) []
       said j =
-          downs_append j o.effects (Effect.Put m.owner (down_term r m.target x) ∷ [])
-          ∙ ap (λ l. downs_in j o.effects ++ l) (append-nil (down_in j m.owner (down_term r m.target x)) ∙ down_said j r m.owner m.target x)
+          downs_append j o.effects (Effect.Put m.owner (down_term r (object m.target) x) ∷ [])
+          ∙ ap (λ l. downs_in j o.effects ++ l) (append-nil (down_in j m.owner (down_term r (object m.target) x)) ∙ down_said j r m.owner m.target x)
 
-      left : (j : Reference) → fm.get ((put m.owner (down_term r m.target x) (unwatch r o)).node.watches) j
+      left : (j : Reference) → fm.get ((put m.owner (down_term r (object m.target) x) (unwatch r o)).node.watches) j
           ≡ cond (same_reference j r) None (fm.get o.node.watches j)
       left j = fm.get-remove reference_cmp_total o.node.watches r j
 
-      fate : (j : Reference) → Fate o j → Fate (put m.owner (down_term r m.target x) (unwatch r o)) j
+      fate : (j : Reference) → Fate o j → Fate (put m.owner (down_term r (object m.target) x) (unwatch r o)) j
       fate j f = by_test _ (same_reference j r)
           (λ e. here j e f)
-          (λ e. fate_aside o (put m.owner (down_term r m.target x) (unwatch r o)) j
+          (λ e. fate_aside o (put m.owner (down_term r (object m.target) x) (unwatch r o)) j
           (left j ∙ ap (λ b. cond b None (fm.get o.node.watches j)) e)
           (said j ∙ ap (λ b. downs_in j o.effects ++ cond b (down m x ∷ []) []) e ∙ append-nil (downs_in j o.effects))
           (λ q d. lived q ∙ d) f)
         where
-          here : (j : Reference) → same_reference j r ≡ true → Fate o j → Fate (put m.owner (down_term r m.target x) (unwatch r o)) j
+          here : (j : Reference) → same_reference j r ≡ true → Fate o j → Fate (put m.owner (down_term r (object m.target) x) (unwatch r o)) j
           here j e (Same a b) =
               let js : j ≡ r = same_reference_true j r e in
               Spent m x (sym a ∙ ap (fm.get o.node.watches) js ∙ h)
@@ -357,8 +362,9 @@ module _ (n : Node) (Tells : Reference → Monitor → Data → Type 0) (Joins :
           here j e (Spent u y a b s d) = absurd (none-some m (sym b ∙ ap (fm.get o.node.watches) (same_reference_true j r e) ∙ h))
 
   -- a registration comes, or goes
-  registers_turns : (r : Reference) (m : Monitor) (o : Work) → living o.node m.target ≡ true → Joins r m → Turns o → Turns (register r m o)
-  registers_turns r m o l h k = record {
+  registers_turns : (r : Reference) (m : Registration) (o : Work) → living o.node m.held ≡ true → IsBound m → Joins r m → Turns o
+      → Turns (register r m o)
+  registers_turns r m o l b h k = record {
     fates = λ j. fate_aside o (register r m o) j refl refl (λ p d. d) (k.fates j);
     dead = k.dead;
     enrolled = λ j v e. new j v (added_some o.node.registered r m j v e);
@@ -371,15 +377,16 @@ module _ (n : Node) (Tells : Reference → Monitor → Data → Type 0) (Joins :
     owners = k.owners;
   }
     where
-      new : (j : Reference) (v : Monitor) → (fm.get o.node.registered j ≡ Some v) ⊎ ((j ≡ r) × (m ≡ v))
-          → (living o.node v.target ≡ true) × ((fm.get n.registered j ≡ Some v) ⊎ Joins j v)
+      new : (j : Reference) (v : Registration) → (fm.get o.node.registered j ≡ Some v) ⊎ ((j ≡ r) × (m ≡ v))
+          → (living o.node v.held ≡ true) × IsBound v × ((fm.get n.registered j ≡ Some v) ⊎ Joins j v)
       new j v (inl e) = k.enrolled j v e
       new j v (inr e) = (
-        subst (λ (z : Monitor). living o.node z.target ≡ true) e.1 l,
+        subst (λ (z : Registration). living o.node z.held ≡ true) e.1 l,
+        subst IsBound e.1 b,
         inr (subst (λ z. Joins z v) (sym e.0) (subst (λ z. Joins r z) e.1 h)),
       )
 
-      stays : (j : Reference) (v : Monitor) → fm.get o.node.registered j ≡ Some v → fm.get (added o.node.registered r m) j ≡ Some v
+      stays : (j : Reference) (v : Registration) → fm.get o.node.registered j ≡ Some v → fm.get (added o.node.registered r m) j ≡ Some v
       stays j v e = pick (fm.contains_key o.node.registered r) refl
         where
           pick : (b : Bool) → fm.contains_key o.node.registered r ≡ b
@@ -389,14 +396,14 @@ module _ (n : Node) (Tells : Reference → Monitor → Data → Type 0) (Joins :
               (λ s. let c : false ≡ true = sym i ∙ ap is_some (ap (fm.get o.node.registered) (sym (same_reference_true j r s)) ∙ e) in cc)
               (λ s. ap (λ b. cond b (Some m) (fm.get o.node.registered j)) s ∙ e)
 
-      go : (j : Reference) (v : Monitor) → (fm.get o.node.registered j ≡ Some v)
+      go : (j : Reference) (v : Registration) → (fm.get o.node.registered j ≡ Some v)
           ⊎ (Lands (is_end j) n v.owner.node o ⊎ Drops j v) → (fm.get (added o.node.registered r m) j ≡ Some v)
           ⊎ (Lands (is_end j) n v.owner.node (register r m o) ⊎ Drops j v)
       go j v (inl e) = inl (stays j v e)
       go j v (inr (inl e)) = inr (inl e)
       go j v (inr (inr e)) = inr (inr e)
 
-  unregisters_turns : (r : Reference) (m : Monitor) (o : Work) → fm.get o.node.registered r ≡ Some m → Drops r m → Turns o
+  unregisters_turns : (r : Reference) (m : Registration) (o : Work) → fm.get o.node.registered r ≡ Some m → Drops r m → Turns o
       → Turns (unregister r o)
   unregisters_turns r m o h d k = record {
     fates = λ j. fate_aside o (unregister r o) j refl refl (λ p e. e) (k.fates j);
@@ -411,7 +418,7 @@ module _ (n : Node) (Tells : Reference → Monitor → Data → Type 0) (Joins :
     owners = k.owners;
   }
     where
-      go : (j : Reference) (v : Monitor) → (fm.get o.node.registered j ≡ Some v)
+      go : (j : Reference) (v : Registration) → (fm.get o.node.registered j ≡ Some v)
           ⊎ (Lands (is_end j) n v.owner.node o ⊎ Drops j v) → (fm.get (fm.remove o.node.registered r) j ≡ Some v)
           ⊎ (Lands (is_end j) n v.owner.node (unregister r o) ⊎ Drops j v)
       go j v (inl e) = by_test _ (same_reference j r)
@@ -445,7 +452,7 @@ module _ (n : Node) (Tells : Reference → Monitor → Data → Type 0) (Joins :
     reacted = λ p q x o h k. core_aside o (report (Effect.LinkExit p q x) o)
         (effects_aside o o.node (Effect.LinkExit p q x ∷ []) (λ r. refl) refl refl refl (λ z. refl) refl refl refl refl refl) refl k;
     finished = λ p x o k. finish_turns p x o k;
-    registers = λ r m o l h k. record { turns = registers_turns r m o l h k.turns; sides = k.sides };
+    registers = λ r m o l b h k. record { turns = registers_turns r m o l b h k.turns; sides = k.sides };
     unregisters = λ r m o e h k. record { turns = unregisters_turns r m o e h k.turns; sides = k.sides };
     ended = λ r m x o e h k. record { turns = ended_turns r m x o e h k.turns; sides = k.sides };
   }

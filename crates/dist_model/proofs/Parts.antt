@@ -4,6 +4,7 @@ use Rattle.std.proofs.Common.{◌≡◌, ℕ, Bool, true, false, cond, not, List
 use Rattle.std.proofs.lemmas.Bool.{and_parts}
 use Rattle.std.specs.Prelude.{codes}
 use Rattle.std.specs.FinMap as fm
+use Rattle.std.proofs.lemmas.Option.{same_Some}
 use Rattle.dist_model.proofs.Seen.{replies}
 use Rattle.dist_model.proofs.Calls.{IfGoes, if_cond, if_drawn, if_not, living_trapping, living_without}
 use Rattle.dist_model.proofs.Keys.{same_pid_true}
@@ -17,7 +18,7 @@ use Rattle.dist_model.specs.Items.{Handshake, Item, Signalled, Tick}
 use Rattle.dist_model.specs.Linking.{exit_follows, link_by, link_new, take_link, take_link_by, unlink_by}
 use Rattle.dist_model.proofs.Records.{sweep_link, sweep_registered, sweep_watch}
 use Rattle.dist_model.specs.Losses.{registered_by, sweep_end, watch_to}
-use Rattle.dist_model.specs.Monitoring.{register, unregister, unwatch}
+use Rattle.dist_model.specs.Monitoring.{pid_watch, register, registration_of, unregister, unwatch}
 use Rattle.dist_model.specs.Names.{Name, same_name, same_pid}
 use Rattle.dist_model.specs.Node.{Life, Node, end_of, is_living_life, living, is_stranger, reaches, traps_life}
 use Rattle.dist_model.specs.Taking.{take_item}
@@ -37,8 +38,13 @@ use Rattle.exit_core.specs.declared.reaction.Reaction.{Reaction}
 use Rattle.link_core.specs.News.{Exited, LinkNews, Signals, heard, noconnection, noproc, reply}
 use Rattle.link_core.specs.declared.end.End.{End}
 use Rattle.link_core.specs.declared.end.LinkSignal.{LinkSignal}
-use Rattle.monitor_core.specs.Monitors.{is_held, is_this, monitor_of}
-use Rattle.monitor_core.specs.declared.monitor.Monitor.{Monitor}
+use Rattle.monitor_core.specs.Monitors.{as_watch, is_held, is_this, itself, same_target}
+use Rattle.monitor_core.specs.declared.monitor.Target.{Target}
+use Rattle.monitor_core.specs.declared.monitor.Watch.{Watch}
+use Rattle.monitor_core.specs.declared.monitor.Registration.{Registration}
+use Rattle.dist_model.specs.Telling.{object}
+use Rattle.dist_model.proofs.Entries.{IsBound}
+use Rattle.std.specs.Option.{option_map}
 
 -- a signal that founds no claim
 abbrev pub is_plain : Signal → Bool
@@ -52,9 +58,9 @@ is_plain _ = true
 pub record Rules : Type 1 where
   pub Says : Addressed → Type 0
   pub Reacts : Pid → Pid → Data → Type 0
-  pub Tells : Reference → Monitor → Data → Type 0
-  pub Joins : Reference → Monitor → Type 0
-  pub Drops : Reference → Monitor → Type 0
+  pub Tells : Reference → Watch → Data → Type 0
+  pub Joins : Reference → Registration → Type 0
+  pub Drops : Reference → Registration → Type 0
 
 pub record Closed (rules : Rules) (X : Work → Type 0) : Type 0 where
   pub plain : (s : Addressed) → is_plain s.signal ≡ true → rules.Says s
@@ -66,11 +72,11 @@ pub record Closed (rules : Rules) (X : Work → Type 0) : Type 0 where
   pub message : (p : Pid) (m : Data) (o : Work) → ((r : Reference) → down_in r p m ≡ []) → X o → X (put p m o)
   pub reacted : (p q : Pid) (x : Data) (o : Work) → rules.Reacts p q x → X o → X (report (Effect.LinkExit p q x) o)
   pub finished : (p : Pid) (x : Data) (o : Work) → X o → X (end_process p x o)
-  pub registers : (r : Reference) (m : Monitor) (o : Work) → living o.node m.target ≡ true → rules.Joins r m → X o → X (register r m o)
-  pub unregisters : (r : Reference) (m : Monitor) (o : Work) → fm.get o.node.registered r ≡ Some m → rules.Drops r m → X o
+  pub registers : (r : Reference) (m : Registration) (o : Work) → living o.node m.held ≡ true → IsBound m → rules.Joins r m → X o → X (register r m o)
+  pub unregisters : (r : Reference) (m : Registration) (o : Work) → fm.get o.node.registered r ≡ Some m → rules.Drops r m → X o
       → X (unregister r o)
-  pub ended : (r : Reference) (m : Monitor) (x : Data) (o : Work) → fm.get o.node.watches r ≡ Some m → rules.Tells r m x → X o
-      → X (put m.owner (down_term r m.target x) (unwatch r o))
+  pub ended : (r : Reference) (m : Watch) (x : Data) (o : Work) → fm.get o.node.watches r ≡ Some m → rules.Tells r m x → X o
+      → X (put m.owner (down_term r (object m.target) x) (unwatch r o))
 
 -- why an item may be taken
 pub record Reasons (rules : Rules) (X : Work → Type 0) (i : Item) (o : Work) : Type 0 where
@@ -81,19 +87,32 @@ pub record Reasons (rules : Rules) (X : Work → Type 0) (i : Item) (o : Work) :
   pub nobody : (p q : Pid) (r : Reference) (pay : Bool) → i ≡ Signalled (Signal.Monitor p q r) pay → living o.node q ≡ false
       → rules.Says (to_pid p (Signal.MonitorExit q p r noproc))
   pub joins : (p q : Pid) (r : Reference) (pay : Bool) → i ≡ Signalled (Signal.Monitor p q r) pay → living o.node q ≡ true
-      → rules.Joins r (monitor_of p q)
-  pub drops : (p q : Pid) (r : Reference) (pay : Bool) → i ≡ Signalled (Signal.Demonitor p q r) pay
-      → fm.get o.node.registered r ≡ Some (monitor_of p q) → rules.Drops r (monitor_of p q)
+      → rules.Joins r (registration_of p q)
+  pub drops : (p q : Pid) (r : Reference) (pay : Bool) (m : Registration) → i ≡ Signalled (Signal.Demonitor p q r) pay
+      → fm.get o.node.registered r ≡ Some m → as_watch m ≡ pid_watch p q → rules.Drops r m
   pub tells : (p q : Pid) (r : Reference) (x : Data) (pay : Bool) → i ≡ Signalled (Signal.MonitorExit q p r x) pay
-      → fm.get o.node.watches r ≡ Some (monitor_of p q) → rules.Tells r (monitor_of p q) x
+      → fm.get o.node.watches r ≡ Some (pid_watch p q) → rules.Tells r (pid_watch p q) x
 
-pub held_is : (v : Option Monitor) (p q : Pid) → is_this v (monitor_of p q) ≡ true → v ≡ Some (monitor_of p q)
+of_pid : (t : Target) (q : Pid) → same_target t (Target.Pid q) ≡ true → t ≡ Target.Pid q
+of_pid (Target.Pid z) q e = ap Target.Pid (same_pid_true z q e)
+of_pid (Target.Name name node) q e = cc
+
+pub held_is : (v : Option Watch) (p q : Pid) → is_this v (pid_watch p q) ≡ true → v ≡ Some (pid_watch p q)
 held_is None p q h = cc
 held_is (Some v) p q h =
-    let b = and_parts (same_pid v.owner p) (same_pid v.target q) h in
+    let b = and_parts (same_pid v.owner p) (same_target v.target (Target.Pid q)) h in
     let x : v.owner ≡ p = same_pid_true v.owner p b.0 in
-    let y : v.target ≡ q = same_pid_true v.target q b.1 in
+    let y : v.target ≡ Target.Pid q = of_pid v.target q b.1 in
     λ i. Some (record { owner = x i; target = y i })
+
+pub held_watch : (v : Option Watch) (p q : Pid) → is_this (option_map itself v) (pid_watch p q) ≡ true → v ≡ Some (pid_watch p q)
+held_watch None p q h = cc
+held_watch (Some v) p q h = held_is (Some v) p q h
+
+pub held_registration : (v : Option Registration) (p q : Pid) → is_this (option_map as_watch v) (pid_watch p q) ≡ true
+    → (m : Registration) × (v ≡ Some m) × (as_watch m ≡ pid_watch p q)
+held_registration None p q h = cc
+held_registration (Some m) p q h = (m, refl, same_Some (as_watch m) (pid_watch p q) (held_is (Some (as_watch m)) p q h))
 
 module _ (rules : Rules) (X : Work → Type 0) (c : Closed rules X) where
   abbrev AllSaid : List Addressed → Type 0
@@ -166,13 +185,15 @@ module _ (rules : Rules) (X : Work → Type 0) (c : Closed rules X) where
   item_kept y (Signalled (Signal.Exit2 q p x) pay) o h k =
       cond_kept (living o.node p) _ o (λ l. exit_kept (traps_life (fm.get o.node.lives p)) (sent_exit p q x) p o k) (λ l. k)
   item_kept y (Signalled (Signal.Monitor p q r) pay) o h k =
-      cond_kept (living o.node q) _ _ (λ l. c.registers r (monitor_of p q) o l (h.joins p q r pay refl l) k)
+      cond_kept (living o.node q) _ _ (λ l. c.registers r (registration_of p q) o l refl (h.joins p q r pay refl l) k)
       (λ l. c.posted (to_pid p (Signal.MonitorExit q p r noproc)) o (h.nobody p q r pay refl l) k)
-  item_kept y (Signalled (Signal.Demonitor p q r) pay) o h k = cond_kept (is_held o.node.registered r (monitor_of p q)) _ o
-      (λ l. let e = held_is (fm.get o.node.registered r) p q l in c.unregisters r (monitor_of p q) o e (h.drops p q r pay refl e) k) (λ l. k)
-  item_kept y (Signalled (Signal.MonitorExit q p r x) pay) o h k = cond_kept (living o.node p && is_held o.node.watches r (monitor_of p q)) _ o
-      (λ l. let e = held_is (fm.get o.node.watches r) p q (and_parts (living o.node p) _ l).1 in
-      c.ended r (monitor_of p q) x o e (h.tells p q r x pay refl e) k) (λ l. k)
+  item_kept y (Signalled (Signal.Demonitor p q r) pay) o h k = cond_kept (is_held as_watch o.node.registered r (pid_watch p q)) _ o
+      (λ l. let e = held_registration (fm.get o.node.registered r) p q l in
+      c.unregisters r e.0 o e.1 (h.drops p q r pay e.0 refl e.1 e.2) k) (λ l. k)
+  item_kept y (Signalled (Signal.MonitorExit q p r x) pay) o h k =
+      cond_kept (living o.node p && is_held itself o.node.watches r (pid_watch p q)) _ o
+      (λ l. let e = held_watch (fm.get o.node.watches r) p q (and_parts (living o.node p) _ l).1 in
+      c.ended r (pid_watch p q) x o e (h.tells p q r x pay refl e) k) (λ l. k)
   item_kept y (Handshake m) o h k = k
   item_kept y Tick o h k = k
 
@@ -236,24 +257,24 @@ module _ (rules : Rules) (X : Work → Type 0) (c : Closed rules X) where
   end_swept End.Active p q o h k = link_exit_kept p q noconnection (set_end p q End.None o) (h refl) (c.end_set p q End.None o (inr refl) k)
   end_swept _ p q o h k = c.end_set p q End.None o (inr refl) k
 
-  registered_swept : (d : Option (Reference × Monitor)) (o : Work)
-      → ((e : Reference × Monitor) → d ≡ Some e → (fm.get o.node.registered e.0 ≡ Some e.1) × rules.Drops e.0 e.1) → X o
+  registered_swept : (d : Option (Reference × Registration)) (o : Work)
+      → ((e : Reference × Registration) → d ≡ Some e → (fm.get o.node.registered e.0 ≡ Some e.1) × rules.Drops e.0 e.1) → X o
       → X (sweep_registered d o)
   registered_swept None o h k = k
   registered_swept (Some e) o h k = let v = h e refl in c.unregisters e.0 e.1 o v.0 v.1 k
 
-  watch_swept : (d : Option (Reference × Monitor)) (y : Name) (o : Work)
-      → ((e : Reference × Monitor) → d ≡ Some e → (fm.get o.node.watches e.0 ≡ Some e.1) × rules.Tells e.0 e.1 noconnection)
-      → ((e : Reference × Monitor) → registered_by y (fm.entries o.node.registered) ≡ Some e
+  watch_swept : (d : Option (Reference × Watch)) (y : Name) (o : Work)
+      → ((e : Reference × Watch) → d ≡ Some e → (fm.get o.node.watches e.0 ≡ Some e.1) × rules.Tells e.0 e.1 noconnection)
+      → ((e : Reference × Registration) → registered_by y (fm.entries o.node.registered) ≡ Some e
       → (fm.get o.node.registered e.0 ≡ Some e.1) × rules.Drops e.0 e.1) → X o → X (sweep_watch d y o)
   watch_swept None y o h j k = registered_swept (registered_by y (fm.entries o.node.registered)) o j k
   watch_swept (Some e) y o h j k = let v = h e refl in c.ended e.0 e.1 noconnection o v.0 v.1 k
 
   pub link_swept : (d : Option ((Pid × Pid) × End)) (y : Name) (o : Work)
       → ((e : (Pid × Pid) × End) → d ≡ Some e → e.1 ≡ End.Active → rules.Reacts e.0.0 e.0.1 noconnection)
-      → ((e : Reference × Monitor) → watch_to y (fm.entries o.node.watches) ≡ Some e → (fm.get o.node.watches e.0 ≡ Some e.1)
+      → ((e : Reference × Watch) → watch_to y (fm.entries o.node.watches) ≡ Some e → (fm.get o.node.watches e.0 ≡ Some e.1)
       × rules.Tells e.0 e.1 noconnection)
-      → ((e : Reference × Monitor) → registered_by y (fm.entries o.node.registered) ≡ Some e
+      → ((e : Reference × Registration) → registered_by y (fm.entries o.node.registered) ≡ Some e
       → (fm.get o.node.registered e.0 ≡ Some e.1) × rules.Drops e.0 e.1) → X o → X (sweep_link d y o)
   link_swept None y o h i j k = watch_swept (watch_to y (fm.entries o.node.watches)) y o i j k
   link_swept (Some e) y o h i j k = end_swept e.1 e.0.0 e.0.1 o (h e refl) k

@@ -35,19 +35,20 @@ use Rattle.erl_control.specs.declared.signal.Signal.{Signal}
 use Rattle.erl_names.specs.declared.trunk.TrunkId.{TrunkId}
 use Rattle.erl_term.specs.declared.term.Pid.{Pid}
 use Rattle.erl_term.specs.declared.term.Reference.{Reference}
-use Rattle.monitor_core.specs.Monitors.{monitor_of}
-use Rattle.monitor_core.specs.declared.monitor.Monitor.{Monitor}
+use Rattle.monitor_core.specs.declared.monitor.Target.{Target}
+use Rattle.monitor_core.specs.declared.monitor.Registration.{Registration}
+use Rattle.dist_model.specs.Monitoring.{pid_watch, registration_of}
 
 up_not_over : (v : State) → is_up v ≡ true → is_over v ≡ true → ⊥
 up_not_over Up h k = cc
 up_not_over _ h k = cc
 
-module _ (w : World) (h : History) (t : Tale w h) (k : Reference) (p q : Pid) (m : Monitored k p q h) where
-  both : (a b : Pid) → same_reference k k ≡ same_reference k k → Monitored k a b h → (a ≡ p) × (b ≡ q)
-  both a b e c = monitored_one k a b p q h (t.sound.one k) c m
-
-  named : (r : Reference) (a b : Pid) → same_reference k r ≡ true → Monitored r a b h → (a ≡ p) × (b ≡ q)
-  named r a b e c = both a b refl (subst (λ z. Monitored z a b h) (sym (same_reference_true k r e)) c)
+module _ (w : World) (h : History) (t : Tale w h) (k : Reference) (p q : Pid) (m : Monitored k p (Target.Pid q) h) where
+  named : (r : Reference) (a b : Pid) → same_reference k r ≡ true → Monitored r a (Target.Pid b) h → (a ≡ p) × (b ≡ q)
+  named r a b e c =
+      let o = monitored_one k a (Target.Pid b) p (Target.Pid q) h (t.sound.one k)
+      (subst (λ z. Monitored z a (Target.Pid b) h) (sym (same_reference_true k r e)) c) m in
+      let s : b ≡ q = cc in (o.0, s)
 
   call_of : (i : Item) → IsFounded w h i → is_call k i ≡ true → is_signal_of p q i ≡ true
   call_of (Signalled (Signal.Monitor a b r) pay) f e =
@@ -79,17 +80,18 @@ module _ (w : World) (h : History) (t : Tale w h) (k : Reference) (p q : Pid) (m
   no_end l = silent_list (is_end k) (λ i f e. or_right (is_signal_of p q i) (is_signal_of q p i) (end_of i f e)) l
 
   -- what is registered is this monitor, of a living target
-  registered : (y : Node) (b : Monitor) → node_of w.nodes q.node ≡ Some y → fm.get y.registered k ≡ Some b → IsRegistered w k p q
+  registered : (y : Node) (b : Registration) → node_of w.nodes q.node ≡ Some y → fm.get y.registered k ≡ Some b → IsRegistered w k p q
   registered y b hy j =
       let v = t.sound.enrolled q.node y k b hy j in
-      let o = named k b.owner b.target (same_reference_refl k) v.1 in
-      let same : b ≡ monitor_of p q = λ i. record { owner = o.0 i; target = o.1 i } in
+      let o = named k b.owner b.held (same_reference_refl k) v.1 in
+      let same : b ≡ registration_of p q =
+      λ i. record { owner = o.0 i; target = (v.2 ∙ ap Target.Pid o.1) i; held = o.1 i } in
       (ap (λ z. living_at z q) hy ∙ subst (λ z. living y z ≡ true) o.1 v.0, ap (λ z. registered_at z k) hy ∙ j ∙ ap Some same)
 
-  module _ (y : Name) (v : Node) (hv : node_of w.nodes y ≡ Some v) (j : fm.get v.watches k ≡ Some (monitor_of p q)) where
+  module _ (y : Name) (v : Node) (hv : node_of w.nodes y ≡ Some v) (j : fm.get v.watches k ≡ Some (pid_watch p q)) where
     owner_at : p.node ≡ y
     owner_at = same_name_true p.node v.mint.name
-        (never_own v p ((t.good.core.nodes y v hv).born p (t.sound.watching y v k (monitor_of p q) hv j).4))
+        (never_own v p ((t.good.core.nodes y v hv).born p (t.sound.watching y v k (pid_watch p q) hv j).4))
         ∙ node_of_name w.nodes y v hv
 
     here : node_of w.nodes p.node ≡ Some v
@@ -98,8 +100,8 @@ module _ (w : World) (h : History) (t : Tale w h) (k : Reference) (p q : Pid) (m
     own_name : v.mint.name ≡ p.node
     own_name = node_of_name w.nodes y v hv ∙ sym owner_at
 
-    followed : Followed w y v k (monitor_of p q)
-    followed = t.linked y v k (monitor_of p q) hv j
+    followed : Followed w y v k (pid_watch p q)
+    followed = t.linked y v k (pid_watch p q) hv j
 
     at_home : p.node ≡ q.node → nothing_between p q (local_list w p.node) ≡ true → HomeKnown v k → IsRegistered w k p q
     at_home e s (inl c) = absurd (no_call v.local (t.sound.locals y v hv) (ap (λ z. nothing_between p q (local_at z)) (sym here) ∙ s) c)
@@ -117,7 +119,7 @@ module _ (w : World) (h : History) (t : Tale w h) (k : Reference) (p q : Pid) (m
         let same : b.side ≡ side = same_Some b.side side (sym b.there ∙ ap (λ o. side_in o u) hz ∙ hs) in
         absurd (up_not_over side.state (ap (λ (c : TrunkSide). is_up c.state) (sym same) ∙ b.state) ov)
 
-    far_away : Away w y v k (monitor_of p q) → (u : TrunkId) → HasSide w p.node u q.node is_up
+    far_away : Away w y v k (pid_watch p q) → (u : TrunkId) → HasSide w p.node u q.node is_up
         → HasSide w q.node u p.node is_up → nothing_between p q (list_to w.lists u p.node) ≡ true
         → nothing_between p q (list_to w.lists u q.node) ≡ true → IsRegistered w k p q
     far_away c u a b s r = go (one (t.good.core.sides y v hv).one)
@@ -146,7 +148,7 @@ module _ (w : World) (h : History) (t : Tale w h) (k : Reference) (p q : Pid) (m
             pick (inl i) = absurd (up_not_over c.side.state (ap (λ (z : TrunkSide). is_up z.state) (sym same) ∙ a.state) i)
             pick (inr i) = on_trunk u b s r (subst (λ z. Known w z y q.node k) (sym e) i)
 
-    not_away : Away w y v k (monitor_of p q) → is_connected w p.node q.node ≡ false → ⊥
+    not_away : Away w y v k (pid_watch p q) → is_connected w p.node q.node ≡ false → ⊥
     not_away c i =
         go (side_where (λ s. is_up s || is_losing s) q.node (fm.entries v.sides)) refl (sym (ap (λ o. connected_at o q.node) here) ∙ i)
       where
@@ -174,7 +176,7 @@ down_or_registered h w t r p q m lp nr quiet = go (downs r h) refl
     dead : (v : Node) → node_of w.nodes p.node ≡ Some v → over v p ≡ true → ⊥
     dead v hv o = let z : true ≡ false = sym lp ∙ ap (λ c. living_at c p) hv ∙ (over_parts v p o).0 in cc
 
-    waits : ((v : Node) × (node_of w.nodes r.node ≡ Some v) × (fm.get v.watches r ≡ Some (monitor_of p q)))
+    waits : ((v : Node) × (node_of w.nodes r.node ≡ Some v) × (fm.get v.watches r ≡ Some (pid_watch p q)))
         ⊎ ((v : Node) × (node_of w.nodes p.node ≡ Some v) × (over v p ≡ true)) → IsRegistered w r p q
     waits (inl c) = watched w h t r p q m r.node c.0 c.1 c.2 quiet
     waits (inr c) = absurd (dead c.0 c.1 c.2)

@@ -13,35 +13,37 @@ use Rattle.erl_term.specs.declared.term.Reference.{Reference}
 use Rattle.exit_core.specs.Messages.{down_term}
 use Rattle.link_core.specs.News.{noconnection}
 use Rattle.link_core.specs.declared.end.End.{End}
-use Rattle.monitor_core.specs.declared.monitor.Monitor.{Monitor}
+use Rattle.monitor_core.specs.declared.monitor.Registration.{Registration}
+use Rattle.monitor_core.specs.declared.monitor.Watch.{Watch}
+use Rattle.dist_model.specs.Telling.{object}
 
-abbrev pub sweep_registered : Option (Reference × Monitor) → Work → Work
+abbrev pub sweep_registered : Option (Reference × Registration) → Work → Work
 sweep_registered None o = o
 sweep_registered (Some e) o = unregister e.0 o
 
-abbrev pub sweep_watch : Option (Reference × Monitor) → Name → Work → Work
+abbrev pub sweep_watch : Option (Reference × Watch) → Name → Work → Work
 sweep_watch None y o = sweep_registered (registered_by y (fm.entries o.node.registered)) o
-sweep_watch (Some e) y o = put e.1.owner (down_term e.0 e.1.target noconnection) (unwatch e.0 o)
+sweep_watch (Some e) y o = put e.1.owner (down_term e.0 (object e.1.target) noconnection) (unwatch e.0 o)
 
 abbrev pub sweep_link : Option ((Pid × Pid) × End) → Name → Work → Work
 sweep_link None y o = sweep_watch (watch_to y (fm.entries o.node.watches)) y o
 sweep_link (Some e) y o = sweep_end e.1 e.0.0 e.0.1 o
 
 -- the least of three
-abbrev least_of : Option ((Pid × Pid) × End) → (m k : Option (Reference × Monitor)) → Option Record
+abbrev least_of : Option ((Pid × Pid) × End) → (m : Option (Reference × Watch)) → (k : Option (Reference × Registration)) → Option Record
 least_of l m k =
     option_or (option_map (λ (e : (Pid × Pid) × End). OfLink e.0.0 e.0.1 e.1) l)
-    (option_or (option_map (λ (e : Reference × Monitor). OfWatch e.0 e.1) m)
-    (option_map (λ (e : Reference × Monitor). OfRegistration e.0) k))
+    (option_or (option_map (λ (e : Reference × Watch). OfWatch e.0 e.1) m)
+    (option_map (λ (e : Reference × Registration). OfRegistration e.0) k))
 
 pub least_as : (y : Name) (o : Work) → sweep_record (least_record y o.node) o ≡ sweep_link (link_to y (fm.entries o.node.ends)) y o
 least_as y o = linked (link_to y (fm.entries o.node.ends))
   where
-    registered : (k : Option (Reference × Monitor)) → sweep_record (least_of None None k) o ≡ sweep_registered k o
+    registered : (k : Option (Reference × Registration)) → sweep_record (least_of None None k) o ≡ sweep_registered k o
     registered None = refl
     registered (Some e) = refl
 
-    watched : (m : Option (Reference × Monitor))
+    watched : (m : Option (Reference × Watch))
         → sweep_record (least_of None m (registered_by y (fm.entries o.node.registered))) o ≡ sweep_watch m y o
     watched None = registered (registered_by y (fm.entries o.node.registered))
     watched (Some e) = refl
@@ -60,7 +62,7 @@ pub no_records : (y : Name) (n : Node) → has_records y n ≡ false → (link_t
     × (is_some (watch_to y (fm.entries n.watches)) ≡ false)
 no_records y n h = go (link_to y (fm.entries n.ends)) (watch_to y (fm.entries n.watches)) h
   where
-    go : (l : Option ((Pid × Pid) × End)) (m : Option (Reference × Monitor))
+    go : (l : Option ((Pid × Pid) × End)) (m : Option (Reference × Watch))
         → is_some (least_of l m (registered_by y (fm.entries n.registered))) ≡ false → (l ≡ None) × (is_some m ≡ false)
     go None None h = (refl, refl)
     go _ _ h = cc

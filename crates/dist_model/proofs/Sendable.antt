@@ -34,7 +34,7 @@ use Rattle.erl_control.specs.Ends.{receiver_of}
 use Rattle.dist_model.specs.Linking.{exit_follows, link_by, link_new, take_link, take_link_by, unlink_by}
 use Rattle.dist_model.specs.Losses.{any_side, link_to, lose, registered_by, sweep, sweep_by, sweep_end, watch_to}
 use Rattle.dist_model.proofs.Records.{least_as, sweep_link, sweep_registered, sweep_watch}
-use Rattle.dist_model.specs.Monitoring.{demonitor_by, register, unregister, unwatch, watch}
+use Rattle.dist_model.specs.Monitoring.{demonitor_by, pid_watch, register, registration_of, unregister, unwatch, watch}
 use Rattle.dist_model.specs.Names.{Name, place_cmp, same_name, same_pid}
 use Rattle.dist_model.specs.NodeEvents.{if_up}
 use Rattle.dist_model.proofs.Envelopes.{Envelope, outgoing, sent_by, sent_in, sent_in-silent}
@@ -51,7 +51,7 @@ use Rattle.erl_control.specs.declared.signal.Signal.{Signal}
 use Rattle.erl_names.specs.Ids.{reference_of}
 use Rattle.erl_names.specs.Minted.{Minted, id_of, last}
 use Rattle.erl_names.specs.declared.trunk.TrunkId.{TrunkId}
-use Rattle.erl_term.specs.Data.{Data, atom}
+use Rattle.erl_term.specs.Data.{Data, atom, pid}
 use Rattle.erl_term.specs.declared.refusal.Refusal.{Refusal}
 use Rattle.erl_term.specs.declared.term.Pid.{Pid}
 use Rattle.erl_term.specs.declared.term.Reference.{Reference}
@@ -62,13 +62,16 @@ use Rattle.exit_core.specs.declared.reaction.Reaction.{Reaction}
 use Rattle.link_core.specs.News.{Exited, LinkNews, Signals, heard, noconnection, noproc, reply}
 use Rattle.link_core.specs.declared.end.End.{End}
 use Rattle.link_core.specs.declared.end.LinkSignal.{LinkSignal}
-use Rattle.monitor_core.specs.Monitors.{is_held, monitor_of}
-use Rattle.monitor_core.specs.declared.monitor.Monitor.{Monitor}
+use Rattle.monitor_core.specs.Monitors.{as_watch, is_held, itself}
 use Rattle.erl_handshake.specs.Roles.{send_name}
 use Rattle.erl_term.specs.Canonical.{canonical_atom}
 use Rattle.std.proofs.lemmas.Option.{same_Some, none-some}
 use Rattle.erl_handshake.specs.declared.setup.Setup.{Setup}
 use Rattle.dist_model.specs.Sides.{untold}
+use Rattle.monitor_core.specs.declared.monitor.Target.{Target}
+use Rattle.monitor_core.specs.declared.monitor.Watch.{Watch}
+use Rattle.monitor_core.specs.declared.monitor.Registration.{Registration}
+use Rattle.dist_model.specs.Telling.{object, taken_back, told_end}
 
 abbrev pub Sendable : Item → Type 0
 Sendable (Signalled s pay) = IsSendable s
@@ -139,16 +142,24 @@ exits_sendable p x (e ∷ es) f = All-append One (exit_for p x e.0 e.1) (exits p
     go End.Active = one_or_none true (to_pid e.0 (Signal.Exit p e.0 x)) (tt, f)
     go _ = All-nil One
 
-monitor_exits_sendable : (p : Pid) (x : Data) (es : List (Reference × Monitor)) → Fits x → AllSendable (monitor_exits p x es)
-monitor_exits_sendable p x [] f = All-nil One
-monitor_exits_sendable p x (e ∷ es) f = All-append One (cond (same_pid e.1.target p) (to_pid e.1.owner (Signal.MonitorExit p e.1.owner e.0 x) ∷ []) [])
-    (monitor_exits p x es)
-    (one_or_none (same_pid e.1.target p) (to_pid e.1.owner (Signal.MonitorExit p e.1.owner e.0 x)) (tt, f)) (monitor_exits_sendable p x es f)
+told_sendable : (b : Bool) (t : Target) (o : Pid) (k : Reference) (x : Data) → Fits x → AllSendable (cond b (told_end t o k x) [])
+told_sendable true (Target.Pid q) o k x f = one_or_none true (to_pid o (Signal.MonitorExit q o k x)) (tt, f)
+told_sendable _ _ o k x f = All-nil One
 
-demonitors_sendable : (p : Pid) (es : List (Reference × Monitor)) → AllSendable (demonitors p es)
+back_sendable : (b : Bool) (p : Pid) (t : Target) (k : Reference) → AllSendable (cond b (taken_back p t k) [])
+back_sendable true p (Target.Pid q) k = one_or_none true (to_pid q (Signal.Demonitor p q k)) (tt, tt)
+back_sendable _ p _ k = All-nil One
+
+monitor_exits_sendable : (p : Pid) (x : Data) (es : List (Reference × Registration)) → Fits x → AllSendable (monitor_exits p x es)
+monitor_exits_sendable p x [] f = All-nil One
+monitor_exits_sendable p x (e ∷ es) f = All-append One (cond (same_pid e.1.held p) (told_end e.1.target e.1.owner e.0 x) [])
+    (monitor_exits p x es)
+    (told_sendable (same_pid e.1.held p) e.1.target e.1.owner e.0 x f) (monitor_exits_sendable p x es f)
+
+demonitors_sendable : (p : Pid) (es : List (Reference × Watch)) → AllSendable (demonitors p es)
 demonitors_sendable p [] = All-nil One
-demonitors_sendable p (e ∷ es) = All-append One (cond (same_pid e.1.owner p) (to_pid e.1.target (Signal.Demonitor p e.1.target e.0) ∷ []) []) (demonitors p es)
-    (one_or_none (same_pid e.1.owner p) (to_pid e.1.target (Signal.Demonitor p e.1.target e.0)) (tt, tt)) (demonitors_sendable p es)
+demonitors_sendable p (e ∷ es) = All-append One (cond (same_pid e.1.owner p) (taken_back p e.1.target e.0) []) (demonitors p es)
+    (back_sendable (same_pid e.1.owner p) p e.1.target e.0) (demonitors_sendable p es)
 
 finished : (p : Pid) (x : Data) (o : Work) → Fits x → X o → X (end_process p x o)
 finished p x o f k =
@@ -208,12 +219,12 @@ taken y (Signalled (Signal.Send p m) pay) o h k = either (living o.node p) (put 
     (silent o (put p m o) (Effect.Put p m) refl refl refl k) k
 taken y (Signalled (Signal.Exit2 q p x) pay) o h k = either (living o.node p) _ o
     (reacted (traps_life (fm.get o.node.lives p)) (sent_exit p q x) p o h.1 k) k
-taken y (Signalled (Signal.Monitor p q r) pay) o h k = either (living o.node q) _ _ (same o (register r (monitor_of p q) o) refl refl k)
+taken y (Signalled (Signal.Monitor p q r) pay) o h k = either (living o.node q) _ _ (same o (register r (registration_of p q) o) refl refl k)
     (posted (to_pid p (Signal.MonitorExit q p r noproc)) o (tt, noproc_fits) k)
-taken y (Signalled (Signal.Demonitor p q r) pay) o h k = either (is_held o.node.registered r (monitor_of p q)) (unregister r o) o
+taken y (Signalled (Signal.Demonitor p q r) pay) o h k = either (is_held as_watch o.node.registered r (pid_watch p q)) (unregister r o) o
     (same o (unregister r o) refl refl k) k
-taken y (Signalled (Signal.MonitorExit q p r x) pay) o h k = either (living o.node p && is_held o.node.watches r (monitor_of p q)) _ o
-    (silent o (put p (down_term r q x) (unwatch r o)) (Effect.Put p (down_term r q x)) refl refl refl k) k
+taken y (Signalled (Signal.MonitorExit q p r x) pay) o h k = either (living o.node p && is_held itself o.node.watches r (pid_watch p q)) _ o
+    (silent o (put p (down_term r (pid q) x) (unwatch r o)) (Effect.Put p (down_term r (pid q) x)) refl refl refl k) k
 taken y _ o h k = k
 
 -- ---- a call
@@ -233,10 +244,11 @@ unlinked_by End.Active p q o k = if_drawn (id_of o.node.mint kind.UnlinkId) _ X 
     (same o o1 refl refl k))
 unlinked_by _ p q o k = k
 
-demonitored : (v : Option Monitor) (p : Pid) (r : Reference) (o : Work) → X o → IfGoes (demonitor_by v p r o) X
+demonitored : (v : Option Watch) (p : Pid) (r : Reference) (o : Work) → X o → IfGoes (demonitor_by v p r o) X
 demonitored None p r o k = tt
 demonitored (Some v) p r o k = if_cond (same_pid v.owner p) _ Refusal.NotTheOwner X
-    (λ e. posted (to_pid v.target (Signal.Demonitor p v.target r)) (unwatch r o) (tt, tt) (same o (unwatch r o) refl refl k))
+    (λ e. carried_all Sendable (λ s pay c. c) (taken_back p v.target r) (unwatch r o) (back_sendable true p v.target r)
+    (same o (unwatch r o) refl refl k))
 
 module _ (n : Node) (k : X (at_work n)) where
   acted : (p q : Pid) (o : Outcome) → IfGoes o X → IfGoes (acting n p (toward n q o)) X
@@ -257,10 +269,10 @@ module _ (n : Node) (k : X (at_work n)) where
   called (Command.Monitor p q) = acted p q _ (if_drawn (id_of n.mint kind.Reference) _ X (λ id h.
       let r = reference_of n.mint id in
       let o1 = draw kind.Reference (at_work n) in
-      either (reaches n q.node) _ (put p (down_term r q noconnection) o1)
-      (posted (to_pid q (Signal.Monitor p q r)) (watch r (monitor_of p q) o1) (tt, tt)
-      (same (at_work n) (watch r (monitor_of p q) o1) refl refl k))
-      (same (at_work n) (put p (down_term r q noconnection) o1) refl refl k)))
+      either (reaches n q.node) _ (put p (down_term r (pid q) noconnection) o1)
+      (posted (to_pid q (Signal.Monitor p q r)) (watch r (pid_watch p q) o1) (tt, tt)
+      (same (at_work n) (watch r (pid_watch p q) o1) refl refl k))
+      (same (at_work n) (put p (down_term r (pid q) noconnection) o1) refl refl k)))
   called (Command.Demonitor p r) = by_living p _ (demonitored (fm.get n.watches r) p r (at_work n) k)
   called (Command.Trap p b) = by_living p _ (record { local = k.local; sent = k.sent })
   called (Command.ExitTo p q x) = acted p q _ (fitted x _ (λ f. posted (to_pid q (Signal.Exit2 p q x)) (at_work n) (tt, f) k))
@@ -283,14 +295,14 @@ end_swept End.Active p q o k = link_exited p q noconnection (set_end p q End.Non
     (same o (set_end p q End.None o) refl refl k)
 end_swept _ p q o k = same o (set_end p q End.None o) refl refl k
 
-registered_swept : (d : Option (Reference × Monitor)) (o : Work) → X o → X (sweep_registered d o)
+registered_swept : (d : Option (Reference × Registration)) (o : Work) → X o → X (sweep_registered d o)
 registered_swept None o k = k
 registered_swept (Some e) o k = same o (unregister e.0 o) refl refl k
 
-watch_swept : (d : Option (Reference × Monitor)) (y : Name) (o : Work) → X o → X (sweep_watch d y o)
+watch_swept : (d : Option (Reference × Watch)) (y : Name) (o : Work) → X o → X (sweep_watch d y o)
 watch_swept None y o k = registered_swept (registered_by y (fm.entries o.node.registered)) o k
-watch_swept (Some e) y o k = silent o (put e.1.owner (down_term e.0 e.1.target noconnection) (unwatch e.0 o))
-    (Effect.Put e.1.owner (down_term e.0 e.1.target noconnection)) refl refl refl k
+watch_swept (Some e) y o k = silent o (put e.1.owner (down_term e.0 (object e.1.target) noconnection) (unwatch e.0 o))
+    (Effect.Put e.1.owner (down_term e.0 (object e.1.target) noconnection)) refl refl refl k
 
 link_swept : (d : Option ((Pid × Pid) × End)) (y : Name) (o : Work) → X o → X (sweep_link d y o)
 link_swept None y o k = watch_swept (watch_to y (fm.entries o.node.watches)) y o k

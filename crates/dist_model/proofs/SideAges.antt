@@ -19,23 +19,24 @@ use Rattle.dist_model.specs.Work.{Work}
 use Rattle.erl_names.specs.declared.trunk.TrunkId.{TrunkId}
 use Rattle.erl_term.specs.declared.term.Reference.{Reference}
 use Rattle.erl_term.specs.Order.{reference_cmp}
-use Rattle.monitor_core.specs.declared.monitor.Monitor.{Monitor}
+use Rattle.monitor_core.specs.declared.monitor.Watch.{Watch}
+use Rattle.monitor_core.specs.Monitors.{target_node}
 
 -- no process of the node watches one of y
 abbrev pub Unwatched : Node → Name → Type 0
-Unwatched n y = (k : Reference) (u : Monitor) → fm.get n.watches k ≡ Some u → u.target.node ≡ y → ⊥
+Unwatched n y = (k : Reference) (u : Watch) → fm.get n.watches k ≡ Some u → target_node u.target ≡ y → ⊥
 
-none_watched : (y : Name) (es : List (Reference × Monitor)) → is_some (watch_to y es) ≡ false → (k : Reference) (u : Monitor)
-    → find reference_cmp k es ≡ Some u → u.target.node ≡ y → ⊥
+none_watched : (y : Name) (es : List (Reference × Watch)) → is_some (watch_to y es) ≡ false → (k : Reference) (u : Watch)
+    → find reference_cmp k es ≡ Some u → target_node u.target ≡ y → ⊥
 none_watched y [] h k u f e = none-some u f
-none_watched y (d ∷ es) h k u f e = go (same_name d.1.target.node y) refl h (same_reference k d.0) f (λ n g. none_watched y es n k u g e)
+none_watched y (d ∷ es) h k u f e = go (same_name (target_node d.1.target) y) refl h (same_reference k d.0) f (λ n g. none_watched y es n k u g e)
   where
-    go : (b : Bool) → same_name d.1.target.node y ≡ b → is_some (cond b (Some d) (watch_to y es)) ≡ false → (c : Bool)
+    go : (b : Bool) → same_name (target_node d.1.target) y ≡ b → is_some (cond b (Some d) (watch_to y es)) ≡ false → (c : Bool)
         → cond c (Some d.1) (find reference_cmp k es) ≡ Some u
         → (is_some (watch_to y es) ≡ false → find reference_cmp k es ≡ Some u → ⊥) → ⊥
     go true i h c f g = let z : true ≡ false = h in cc
     go false i h true f g =
-        let z : true ≡ false = sym (same_name_is d.1.target.node y (ap (λ (v : Monitor). v.target.node) (same_Some d.1 u f) ∙ e)) ∙ i in cc
+        let z : true ≡ false = sym (same_name_is (target_node d.1.target) y (ap (λ (v : Watch). target_node v.target) (same_Some d.1 u f) ∙ e)) ∙ i in cc
     go false i h false f g = g h f
 
 unwatched : (n : Node) (y : Name) → has_records y n ≡ false → Unwatched n y

@@ -35,7 +35,9 @@ use Rattle.erl_term.specs.declared.term.Reference.{Reference}
 use Rattle.exit_core.specs.Messages.{down_term}
 use Rattle.link_core.specs.News.{noconnection}
 use Rattle.link_core.specs.declared.end.End.{End}
-use Rattle.monitor_core.specs.declared.monitor.Monitor.{Monitor}
+use Rattle.monitor_core.specs.declared.monitor.Registration.{Registration}
+use Rattle.monitor_core.specs.declared.monitor.Watch.{Watch}
+use Rattle.dist_model.specs.Telling.{object}
 
 -- towards y the node has a side that is losing, and none that is up
 pub losing_unreached : (n : Node) (t : TrunkId) (v : TrunkSide) → SidesKept n → side_at n t ≡ Some v → v.state ≡ Losing
@@ -99,15 +101,15 @@ ends_swept End.Active p q o r l =
     (link_exits p q noconnection (set_end p q End.None o) (l (λ h. cc)))
 ends_swept _ p q o r l = removes_unreached p q o r
 
-registered_swept : (d : Option (Reference × Monitor)) (o : Work) → Moves o (sweep_registered d o)
+registered_swept : (d : Option (Reference × Registration)) (o : Work) → Moves o (sweep_registered d o)
 registered_swept None o = stays o
 registered_swept (Some e) o = unregisters e.0 o
 
-watches_swept : (d : Option (Reference × Monitor)) (y : Name) (o : Work) → Moves o (sweep_watch d y o)
+watches_swept : (d : Option (Reference × Watch)) (y : Name) (o : Work) → Moves o (sweep_watch d y o)
 watches_swept None y o = registered_swept (registered_by y (fm.entries o.node.registered)) o
 watches_swept (Some e) y o =
-    then o (unwatch e.0 o) (put e.1.owner (down_term e.0 e.1.target noconnection) (unwatch e.0 o)) (unwatches_one e.0 o)
-    (puts e.1.owner (down_term e.0 e.1.target noconnection) (unwatch e.0 o))
+    then o (unwatch e.0 o) (put e.1.owner (down_term e.0 (object e.1.target) noconnection) (unwatch e.0 o)) (unwatches_one e.0 o)
+    (puts e.1.owner (down_term e.0 (object e.1.target) noconnection) (unwatch e.0 o))
 
 links_swept : (d : Option ((Pid × Pid) × End)) (y : Name) (o : Work) → link_to y (fm.entries o.node.ends) ≡ d
     → NodeKept o.node → reaches o.node y ≡ false → Moves o (sweep_link d y o)

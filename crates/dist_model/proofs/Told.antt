@@ -16,7 +16,7 @@ use Rattle.dist_model.proofs.Views.{over}
 use Rattle.dist_model.specs.Causes.{HasEnded, TrueCause}
 use Rattle.dist_model.specs.declared.report.Answer.{Answer}
 use Rattle.dist_model.specs.declared.command.Command.{Command}
-use Rattle.dist_model.specs.Downs.{Demonitored, Down, Monitored, answers, downs, downs_by, is_answered, is_demonitored}
+use Rattle.dist_model.specs.Downs.{Demonitored, Down, IsCallOf, Monitored, answers, downs, downs_by, is_answered, is_demonitored}
 use Rattle.dist_model.specs.Histories.{History}
 use Rattle.dist_model.specs.Items.{Item}
 use Rattle.dist_model.specs.Names.{Name, place_cmp}
@@ -29,8 +29,12 @@ use Rattle.erl_term.specs.Data.{Data}
 use Rattle.erl_term.specs.declared.term.Pid.{Pid}
 use Rattle.erl_term.specs.declared.term.Reference.{Reference}
 use Rattle.link_core.specs.News.{noproc}
-use Rattle.monitor_core.specs.Monitors.{monitor_of}
-use Rattle.monitor_core.specs.declared.monitor.Monitor.{Monitor}
+use Rattle.monitor_core.specs.declared.monitor.Target.{Target}
+use Rattle.monitor_core.specs.declared.monitor.Watch.{Watch}
+use Rattle.monitor_core.specs.declared.monitor.Registration.{Registration}
+use Rattle.dist_model.specs.Monitoring.{pid_watch}
+use Rattle.monitor_core.specs.Monitors.{watch_of}
+use Rattle.dist_model.proofs.Entries.{IsBound}
 
 -- spawned once, and not living
 abbrev pub Dead : World → Pid → Type 0
@@ -45,7 +49,7 @@ abbrev pub Off : World → History → Reference → Type 0
 Off w h k = (1 ≤ answers k h) × ((v : Node) → node_of w.nodes k.node ≡ Some v → fm.get v.watches k ≡ None)
 
 abbrev pub Called : History → Pid → Pid → Reference → Type 0
-Called h p q k = Monitored k p q h
+Called h p q k = Monitored k p (Target.Pid q) h
 
 abbrev pub IsFounded : World → History → Item → Type 0
 IsFounded w h = Founded (Old w h) (Called h) (Off w h)
@@ -62,33 +66,50 @@ pub record Sound (w : World) (h : History) : Type 0 where
   pub lists : (t : TrunkId) (y : Name) → All (IsFounded w h) (list_to w.lists t y)
   pub locals : (y : Name) (v : Node) → node_of w.nodes y ≡ Some v → All (IsFounded w h) v.local
   pub homes : (y : Name) (v : Node) → node_of w.nodes y ≡ Some v → All (TargetsIn (λ q. is_stranger v q ≡ false)) v.local
-  pub enrolled : (y : Name) (v : Node) (k : Reference) (u : Monitor) → node_of w.nodes y ≡ Some v
-      → fm.get v.registered k ≡ Some u → (living v u.target ≡ true) × Monitored k u.owner u.target h
+  pub enrolled : (y : Name) (v : Node) (k : Reference) (u : Registration) → node_of w.nodes y ≡ Some v
+      → fm.get v.registered k ≡ Some u → (living v u.held ≡ true) × Monitored k u.owner (Target.Pid u.held) h × IsBound u
   pub one : (k : Reference) → answers k h ≤ 1
   pub drawn : (k : Reference) → 1 ≤ answers k h → (v : Node) × (node_of w.nodes k.node ≡ Some v) × Drawn v k
   pub unanswered : (k : Reference) → answers k h ≡ 0 → (downs k h ≡ []) × (Demonitored k h → ⊥)
-  pub watching : (y : Name) (v : Node) (k : Reference) (u : Monitor) → node_of w.nodes y ≡ Some v → fm.get v.watches k ≡ Some u
+  pub watching : (y : Name) (v : Node) (k : Reference) (u : Watch) → node_of w.nodes y ≡ Some v → fm.get v.watches k ≡ Some u
       → (k.node ≡ y) × Monitored k u.owner u.target h × (downs k h ≡ []) × (Demonitored k h → ⊥) × (living v u.owner ≡ true)
   pub most : (k : Reference) → length (downs k h) ≤ 1
   pub names : (k : Reference) → All (IsNamed k h) (downs k h)
   pub none_after : (k : Reference) → Demonitored k h → downs k h ≡ []
   -- a monitor that came to no end is watched, or its owner is dead
-  pub waits : (k : Reference) (p q : Pid) → Monitored k p q h → downs k h ≡ [] → (Demonitored k h → ⊥)
-      → ((v : Node) × (node_of w.nodes k.node ≡ Some v) × (fm.get v.watches k ≡ Some (monitor_of p q))) ⊎ Dead w p
+  pub waits : (k : Reference) (p q : Pid) → Monitored k p (Target.Pid q) h → downs k h ≡ [] → (Demonitored k h → ⊥)
+      → ((v : Node) × (node_of w.nodes k.node ≡ Some v) × (fm.get v.watches k ≡ Some (pid_watch p q))) ⊎ Dead w p
 
-pub monitored_answered : (k : Reference) (p q : Pid) (h : History) → Monitored k p q h → 1 ≤ answers k h
+-- no call names a target by its name
+pub unnamed : (k : Reference) (p : Pid) (name node : Name) (h : History) → Monitored k p (Target.Name name node) h → ⊥
+unnamed k p name node [] m = absurd m
+unnamed k p name node (e ∷ h) (inl m) = absurd m.0
+unnamed k p name node (e ∷ h) (inr m) = unnamed k p name node h m
+
+-- so the target is a pid
+pub named_pid : (k : Reference) (p : Pid) (t : Target) (h : History) → Monitored k p t h → (q : Pid) × (t ≡ Target.Pid q)
+named_pid k p (Target.Pid q) h m = (q, refl)
+named_pid k p (Target.Name name node) h m = absurd (unnamed k p name node h m)
+
+pub monitored_answered : (k : Reference) (p : Pid) (q : Target) (h : History) → Monitored k p q h → 1 ≤ answers k h
 monitored_answered k p q [] m = absurd m
 monitored_answered k p q (e ∷ h) (inl m) =
     let a : ◌≡◌ {A = ℕ} (cond (is_answered k e.event e.report) 1 0) 1 = ap (λ b. cond b 1 0) m.1 in omega arith
 monitored_answered k p q (e ∷ h) (inr m) = omega (arith, monitored_answered k p q h m)
 
+-- one call has one owner and one target
+one_call : (p a : Pid) (q b : Target) (e : Event) → IsCallOf p q e → IsCallOf a b e → (p ≡ a) × (q ≡ b)
+one_call p a (Target.Pid q) (Target.Pid b) e m n =
+    let same : Call p.node (Command.Monitor p q) ≡ Call a.node (Command.Monitor a b) = sym m ∙ n in
+    let x : p ≡ a = cc in let y : q ≡ b = cc in (x, ap Target.Pid y)
+one_call p a (Target.Name name node) b e m n = absurd m
+one_call p a (Target.Pid q) (Target.Name name node) e m n = absurd n
+
 -- a reference that was answered once names one owner and one target
-pub monitored_one : (k : Reference) (p q a b : Pid) (h : History) → answers k h ≤ 1 → Monitored k p q h → Monitored k a b h
-    → (p ≡ a) × (q ≡ b)
+pub monitored_one : (k : Reference) (p : Pid) (q : Target) (a : Pid) (b : Target) (h : History) → answers k h ≤ 1
+    → Monitored k p q h → Monitored k a b h → (p ≡ a) × (q ≡ b)
 monitored_one k p q a b [] o m n = absurd m
-monitored_one k p q a b (e ∷ h) o (inl m) (inl n) =
-    let same : Call p.node (Command.Monitor p q) ≡ Call a.node (Command.Monitor a b) = sym m.0 ∙ n.0 in
-    let x : p ≡ a = cc in let y : q ≡ b = cc in (x, y)
+monitored_one k p q a b (e ∷ h) o (inl m) (inl n) = one_call p a q b e.event m.0 n.0
 monitored_one k p q a b (e ∷ h) o (inl m) (inr n) =
     let c : ◌≡◌ {A = ℕ} (cond (is_answered k e.event e.report) 1 0) 1 = ap (λ b. cond b 1 0) m.1 in
     absurd (omega (arith, monitored_answered k a b h n))
@@ -97,22 +118,37 @@ monitored_one k p q a b (e ∷ h) o (inr m) (inl n) =
     absurd (omega (arith, monitored_answered k p q h m))
 monitored_one k p q a b (e ∷ h) o (inr m) (inr n) = monitored_one k p q a b h (omega arith) m n
 
+-- of a pid
+pub pid_in : Pid → Target → Pid
+pid_in p (Target.Pid q) = q
+pid_in p (Target.Name name node) = p
+
+-- why a DOWN of this target is true. A target with a name has none
+abbrev pub CauseOf : History → World → Pid → Target → Data → Type 0
+CauseOf h w p (Target.Pid q) x = TrueCause h w p q x
+CauseOf h w p (Target.Name name node) x = ⊥
+
+pub cause_of_pid : (h : History) (w : World) (p : Pid) (t : Target) (x : Data) → CauseOf h w p t x
+    → (q : Pid) × (t ≡ Target.Pid q) × TrueCause h w p q x
+cause_of_pid h w p (Target.Pid q) x c = (q, refl, c)
+cause_of_pid h w p (Target.Name name node) x c = absurd c
+
 -- how an event treats one reference
 pub data Course (w : World) (h : History) (n : Node) (x : Name) (e : Event) (r : Report) (o : Work) (k : Reference) : Type 0 where
   Stays : fm.get o.node.watches k ≡ fm.get n.watches k → downs_by k e r ≡ [] → is_answered k e r ≡ false
       → is_demonitored k e r ≡ false → Course w h n x e r o k
-  Leaves : (u : Monitor) → fm.get n.watches k ≡ Some u → fm.get o.node.watches k ≡ None → over o.node u.owner ≡ true
+  Leaves : (u : Watch) → fm.get n.watches k ≡ Some u → fm.get o.node.watches k ≡ None → over o.node u.owner ≡ true
       → u.owner.node ≡ x → downs_by k e r ≡ [] → is_answered k e r ≡ false → is_demonitored k e r ≡ false
       → Course w h n x e r o k
-  Downs : (u : Monitor) (z : Data) → fm.get n.watches k ≡ Some u → fm.get o.node.watches k ≡ None
-      → TrueCause h w u.owner u.target z → downs_by k e r ≡ down u z ∷ [] → is_answered k e r ≡ false
+  Downs : (u : Watch) (z : Data) → fm.get n.watches k ≡ Some u → fm.get o.node.watches k ≡ None
+      → CauseOf h w u.owner u.target z → downs_by k e r ≡ down u z ∷ [] → is_answered k e r ≡ false
       → is_demonitored k e r ≡ false → Course w h n x e r o k
   Begins : (p q : Pid) → e ≡ Call p.node (Command.Monitor p q) → is_answered k e r ≡ true → is_demonitored k e r ≡ false
       → k.node ≡ x → (Drawn n k → ⊥) → Drawn o.node k → living o.node p ≡ true
-      → ((fm.get o.node.watches k ≡ Some (monitor_of p q))
+      → ((fm.get o.node.watches k ≡ Some (pid_watch p q))
       × (downs_by k e r ≡ [])) ⊎ ((fm.get o.node.watches k ≡ fm.get n.watches k) × (z : Data) × TrueCause h w p q z
-      × (downs_by k e r ≡ down (monitor_of p q) z ∷ [])) → Course w h n x e r o k
-  Revoked : (u : Monitor) → fm.get n.watches k ≡ Some u → fm.get o.node.watches k ≡ None → downs_by k e r ≡ []
+      × (downs_by k e r ≡ down (pid_watch p q) z ∷ [])) → Course w h n x e r o k
+  Revoked : (u : Watch) → fm.get n.watches k ≡ Some u → fm.get o.node.watches k ≡ None → downs_by k e r ≡ []
       → is_answered k e r ≡ false → is_demonitored k e r ≡ true → Course w h n x e r o k
 
 -- what an event at x leaves
@@ -121,12 +157,12 @@ pub record Deed (w : World) (h : History) (x : Name) (n : Node) (e : Event) (a :
   pub nevers : (p : Pid) → is_stranger n p ≡ false → is_stranger o.node p ≡ false
   pub grows : (p : Pid) → over n p ≡ true → over o.node p ≡ true
   pub carries : Carried (Founded (EndedBefore n (Old w h) (λ p q z. Unit {0}) (Called h) (Off w h) o)
-      (λ p q k. Monitored k p q ((record { event = e; report = Reported a o.effects }) ∷ h))
+      (λ p q k. Monitored k p (Target.Pid q) ((record { event = e; report = Reported a o.effects }) ∷ h))
       (OffNow n (Old w h) (λ p q z. Unit {0}) (Called h) (Off w h) o)) o
   pub homes : All (TargetsIn (λ q. is_stranger o.node q ≡ false)) o.node.local
-  pub enrolled : (k : Reference) (u : Monitor) → fm.get o.node.registered k ≡ Some u → (living o.node u.target ≡ true)
-      × Monitored k u.owner u.target h
-  pub owners : (k : Reference) (u : Monitor) → fm.get o.node.watches k ≡ Some u → living o.node u.owner ≡ true
+  pub enrolled : (k : Reference) (u : Registration) → fm.get o.node.registered k ≡ Some u → (living o.node u.held ≡ true)
+      × Monitored k u.owner (Target.Pid u.held) h × IsBound u
+  pub owners : (k : Reference) (u : Watch) → fm.get o.node.watches k ≡ Some u → living o.node u.owner ≡ true
   pub drawn : (k : Reference) → Drawn n k → Drawn o.node k
   pub course : (k : Reference) → Course w h n x e (Reported a o.effects) o k
 
@@ -164,7 +200,7 @@ module _ (w : World) (h : History) (x : Name) (n : Node) (hx : node_of w.nodes x
 
   -- ---- one reference
 
-  no_watch : (v : Option Monitor) (u : Monitor) → v ≡ None → v ≡ Some u → ⊥
+  no_watch : (v : Option Watch) (u : Watch) → v ≡ None → v ≡ Some u → ⊥
   no_watch v u i j = none-some u (sym i ∙ j)
 
   answered_now : (k : Reference) (b : Bool) → is_answered k e (Reported a o.effects) ≡ b → answers k happened ≡ cond b 1 0 + answers k h
@@ -190,11 +226,11 @@ module _ (w : World) (h : History) (x : Name) (n : Node) (hx : node_of w.nodes x
   none_before : (k : Reference) → k.node ≡ x → (Drawn n k → ⊥) → fm.get n.watches k ≡ None
   none_before k i f = go (fm.get n.watches k) refl
     where
-      go : (v : Option Monitor) → fm.get n.watches k ≡ v → fm.get n.watches k ≡ None
+      go : (v : Option Watch) → fm.get n.watches k ≡ v → fm.get n.watches k ≡ None
       go None j = j
       go (Some u) j = absurd (omega (arith, monitored_answered k u.owner u.target h (g.watching x n k u hx j).1, undrawn k i f))
 
-  watched_answers : (k : Reference) (u : Monitor) → fm.get n.watches k ≡ Some u → 1 ≤ answers k h
+  watched_answers : (k : Reference) (u : Watch) → fm.get n.watches k ≡ Some u → 1 ≤ answers k h
   watched_answers k u b = monitored_answered k u.owner u.target h (g.watching x n k u hx b).1
 
   abbrev C : Reference → Type 0
@@ -233,13 +269,13 @@ module _ (w : World) (h : History) (x : Name) (n : Node) (hx : node_of w.nodes x
       subst (λ l. length l ≤ 1) (sym (two k (down u z ∷ []) [] dn (g.watching x n k u hx b).2)) (omega arith)
   c_most k (Begins p q ev i r kx nd dr l (inl c)) = subst (λ l. length l ≤ 1) (sym (two k [] [] c.1 (begun_downs k kx nd))) (omega arith)
   c_most k (Begins p q ev i r kx nd dr l (inr c)) =
-      subst (λ l. length l ≤ 1) (sym (two k (down (monitor_of p q) c.1 ∷ []) [] c.3 (begun_downs k kx nd))) (omega arith)
+      subst (λ l. length l ≤ 1) (sym (two k (down (pid_watch p q) c.1 ∷ []) [] c.3 (begun_downs k kx nd))) (omega arith)
   c_most k (Revoked u b c dn i r) = subst (λ l. length l ≤ 1) (sym (two k [] (downs k h) dn refl)) (g.most k)
 
   more_names : (k : Reference) → All (IsNamed k h) (downs k h) → All (IsNamed k happened) (downs k h)
   more_names k = All-weaker (IsNamed k h) (IsNamed k happened) (λ v m. inr m) (downs k h)
 
-  one_name : (k : Reference) (u : Monitor) (z : Data) → Monitored k u.owner u.target happened → All (IsNamed k happened) (down u z ∷ [])
+  one_name : (k : Reference) (u : Watch) (z : Data) → Monitored k u.owner u.target happened → All (IsNamed k happened) (down u z ∷ [])
   one_name k u z m = All-cons (IsNamed k happened) (down u z) [] m (All-nil (IsNamed k happened))
 
   c_names : (k : Reference) → C k → All (IsNamed k happened) (downs k happened)
@@ -252,8 +288,8 @@ module _ (w : World) (h : History) (x : Name) (n : Node) (hx : node_of w.nodes x
   c_names k (Begins p q ev i r kx nd dr l (inl c)) =
       subst (λ l. All (IsNamed k happened) l) (sym (two k [] [] c.1 (begun_downs k kx nd))) (All-nil (IsNamed k happened))
   c_names k (Begins p q ev i r kx nd dr l (inr c)) =
-      subst (λ l. All (IsNamed k happened) l) (sym (two k (down (monitor_of p q) c.1 ∷ []) [] c.3 (begun_downs k kx nd)))
-      (one_name k (monitor_of p q) c.1 (inl (ev, i)))
+      subst (λ l. All (IsNamed k happened) l) (sym (two k (down (pid_watch p q) c.1 ∷ []) [] c.3 (begun_downs k kx nd)))
+      (one_name k (pid_watch p q) c.1 (inl (ev, i)))
   c_names k (Revoked u b c dn i r) = subst (λ l. All (IsNamed k happened) l) (sym (two k [] (downs k h) dn refl)) (more_names k (g.names k))
 
   c_after : (k : Reference) → C k → Demonitored k happened → downs k happened ≡ []
@@ -263,20 +299,20 @@ module _ (w : World) (h : History) (x : Name) (n : Node) (hx : node_of w.nodes x
   c_after k (Begins p q ev i r kx nd dr l c) j = absurd ((g.unanswered k (undrawn k kx nd)).1 (not_revoked k r j))
   c_after k (Revoked u b c dn i r) j = two k [] [] dn (g.watching x n k u hx b).2
 
-  abbrev Watch : Name → Node → Reference → Monitor → Type 0
-  Watch y v k u =
+  abbrev Watched : Name → Node → Reference → Watch → Type 0
+  Watched y v k u =
       (k.node ≡ y) × Monitored k u.owner u.target happened × (downs k happened ≡ []) × (Demonitored k happened → ⊥)
       × (living v u.owner ≡ true)
 
-  c_here : (k : Reference) (u : Monitor) → C k → fm.get o.node.watches k ≡ Some u → Watch x o.node k u
+  c_here : (k : Reference) (u : Watch) → C k → fm.get o.node.watches k ≡ Some u → Watched x o.node k u
   c_here k u (Stays b c i r) j =
       let v = g.watching x n k u hx (sym b ∙ j) in (v.0, inr v.1, two k [] [] c v.2, λ z. v.3 (not_revoked k r z), d.owners k u j)
   c_here k u (Leaves u2 b c l ux dn i r) j = absurd (no_watch _ u c j)
   c_here k u (Downs u2 z b c t dn i r) j = absurd (no_watch _ u c j)
   c_here k u (Begins p q ev i r kx nd dr l (inl c)) j =
-      let same : monitor_of p q ≡ u = same_Some (monitor_of p q) u (sym c.0 ∙ j) in (
+      let same : pid_watch p q ≡ u = same_Some (pid_watch p q) u (sym c.0 ∙ j) in (
         kx,
-        subst (λ (v : Monitor). Monitored k v.owner v.target happened) same (inl (ev, i)),
+        subst (λ (v : Watch). Monitored k v.owner v.target happened) same (inl (ev, i)),
         two k [] [] c.1 (begun_downs k kx nd),
         λ z. (g.unanswered k (undrawn k kx nd)).1 (not_revoked k r z),
         d.owners k u j,
@@ -284,8 +320,8 @@ module _ (w : World) (h : History) (x : Name) (n : Node) (hx : node_of w.nodes x
   c_here k u (Begins p q ev i r kx nd dr l (inr c)) j = absurd (no_watch _ u (c.0 ∙ none_before k kx nd) j)
   c_here k u (Revoked u2 b c dn i r) j = absurd (no_watch _ u c j)
 
-  c_there : (y : Name) (v : Node) (k : Reference) (u : Monitor) → (x ≡ y → ⊥) → node_of w.nodes y ≡ Some v
-      → fm.get v.watches k ≡ Some u → C k → Watch y v k u
+  c_there : (y : Name) (v : Node) (k : Reference) (u : Watch) → (x ≡ y → ⊥) → node_of w.nodes y ≡ Some v
+      → fm.get v.watches k ≡ Some u → C k → Watched y v k u
   c_there y v k u far hy j (Stays b c i r) =
       let z = g.watching y v k u hy j in (z.0, inr z.1, two k [] [] c z.2, λ s. z.3 (not_revoked k r s), z.4)
   c_there y v k u far hy j (Leaves u2 b c l ux dn i r) = absurd (far (sym (g.watching x n k u2 hx b).0 ∙ (g.watching y v k u hy j).0))
@@ -295,10 +331,10 @@ module _ (w : World) (h : History) (x : Name) (n : Node) (hx : node_of w.nodes x
 
   abbrev Waits : Reference → Pid → Pid → Type 0
   Waits k p q =
-      ((v : Node) × (node_of (set_node w.nodes x o.node) k.node ≡ Some v) × (fm.get v.watches k ≡ Some (monitor_of p q)))
+      ((v : Node) × (node_of (set_node w.nodes x o.node) k.node ≡ Some v) × (fm.get v.watches k ≡ Some (pid_watch p q)))
       ⊎ ((v : Node) × (node_of (set_node w.nodes x o.node) p.node ≡ Some v) × (over v p ≡ true))
 
-  old_call : (k : Reference) (p q : Pid) → is_answered k e (Reported a o.effects) ≡ false → Monitored k p q happened → Monitored k p q h
+  old_call : (k : Reference) (p q : Pid) → is_answered k e (Reported a o.effects) ≡ false → Monitored k p (Target.Pid q) happened → Monitored k p (Target.Pid q) h
   old_call k p q i (inl m) = let c : true ≡ false = sym m.1 ∙ i in cc
   old_call k p q i (inr m) = m
 
@@ -306,32 +342,32 @@ module _ (w : World) (h : History) (x : Name) (n : Node) (hx : node_of w.nodes x
   rest_empty k i j = sym (two k [] (downs k h) i refl) ∙ j
 
   kept_watch : (k : Reference) (p q : Pid) → (k.node ≡ x → fm.get o.node.watches k ≡ fm.get n.watches k)
-      → ((v : Node) × (node_of w.nodes k.node ≡ Some v) × (fm.get v.watches k ≡ Some (monitor_of p q))) ⊎ Dead w p
+      → ((v : Node) × (node_of w.nodes k.node ≡ Some v) × (fm.get v.watches k ≡ Some (pid_watch p q))) ⊎ Dead w p
       → Waits k p q
   kept_watch k p q f (inr c) = inr (still_dead p c)
   kept_watch k p q f (inl c) = by_name _ x k.node
       (λ i. inl (
         o.node,
         at_x k.node i,
-        f (sym i) ∙ subst (λ (z : Node). fm.get z.watches k ≡ Some (monitor_of p q)) (here_before k.node c.0 i c.1) c.2,
+        f (sym i) ∙ subst (λ (z : Node). fm.get z.watches k ≡ Some (pid_watch p q)) (here_before k.node c.0 i c.1) c.2,
       ))
       (λ i. inl (c.0, elsewhere k.node i ∙ c.1, c.2))
 
-  c_waits : (k : Reference) (p q : Pid) → C k → Monitored k p q happened → downs k happened ≡ []
+  c_waits : (k : Reference) (p q : Pid) → C k → Monitored k p (Target.Pid q) happened → downs k happened ≡ []
       → (Demonitored k happened → ⊥) → Waits k p q
   c_waits k p q (Stays b c i r) m dn nr =
       kept_watch k p q (λ z. b) (g.waits k p q (old_call k p q i m) (rest_empty k c dn) (λ z. nr (inr z)))
   c_waits k p q (Leaves u b c l ux c2 i r) m dn nr =
-      let one = monitored_one k u.owner u.target p q h (g.one k) (g.watching x n k u hx b).1 (old_call k p q i m) in
+      let one = monitored_one k u.owner u.target p (Target.Pid q) h (g.one k) (g.watching x n k u hx b).1 (old_call k p q i m) in
       inr (subst (λ (z : Pid). (v : Node) × (node_of (set_node w.nodes x o.node) z.node ≡ Some v) × (over v z ≡ true)) one.0
       (o.node, at_x u.owner.node (sym ux), l))
   c_waits k p q (Downs u z b c t c2 i r) m dn nr =
       let y : down u z ∷ [] ≡ [] = sym (two k (down u z ∷ []) [] c2 (g.watching x n k u hx b).2) ∙ dn in cc
   c_waits k p q (Begins p2 q2 ev i r kx nd dr l (inl c)) m dn nr =
-      let one = monitored_one k p2 q2 p q happened (c_one k (Begins p2 q2 ev i r kx nd dr l (inl c))) (inl (ev, i)) m in
-      inl (o.node, at_x k.node (sym kx), c.0 ∙ (λ j. Some (monitor_of (one.0 j) (one.1 j))))
+      let one = monitored_one k p2 (Target.Pid q2) p (Target.Pid q) happened (c_one k (Begins p2 q2 ev i r kx nd dr l (inl c))) (inl (ev, i)) m in
+      inl (o.node, at_x k.node (sym kx), c.0 ∙ (λ j. Some (watch_of (one.0 j) (one.1 j))))
   c_waits k p q (Begins p2 q2 ev i r kx nd dr l (inr c)) m dn nr =
-      let y : down (monitor_of p2 q2) c.1 ∷ [] ≡ [] = sym (two k (down (monitor_of p2 q2) c.1 ∷ []) [] c.3 (begun_downs k kx nd)) ∙ dn in cc
+      let y : down (pid_watch p2 q2) c.1 ∷ [] ≡ [] = sym (two k (down (pid_watch p2 q2) c.1 ∷ []) [] c.3 (begun_downs k kx nd)) ∙ dn in cc
   c_waits k p q (Revoked u b c c2 i r) m dn nr = absurd (nr (inl r))
 
   -- ---- what travels
@@ -358,7 +394,7 @@ module _ (w : World) (h : History) (x : Name) (n : Node) (hx : node_of w.nodes x
       go (Begins p q ev i r kx nd dr l c) j = absurd (omega (arith, f.0, undrawn k kx nd))
       go (Revoked u b c dn i r) j = c
 
-  now_off : (k : Reference) (u : Monitor) → fm.get n.watches k ≡ Some u → fm.get o.node.watches k ≡ None
+  now_off : (k : Reference) (u : Watch) → fm.get n.watches k ≡ Some u → fm.get o.node.watches k ≡ None
       → (1 ≤ answers k happened)
       × ((v : Node) → node_of (set_node w.nodes x o.node) k.node ≡ Some v → fm.get v.watches k ≡ None)
   now_off k u b c =
@@ -389,7 +425,7 @@ module _ (w : World) (h : History) (x : Name) (n : Node) (hx : node_of w.nodes x
       ends q z (inl i) = was_old q z i
       ends q z (inr i) = inl (inl i)
 
-      offs : (k : Reference) → Off w h k ⊎ (((u : Monitor) × (fm.get n.watches k ≡ Some u)) × (fm.get o.node.watches k ≡ None)) → OffThen k
+      offs : (k : Reference) → Off w h k ⊎ (((u : Watch) × (fm.get n.watches k ≡ Some u)) × (fm.get o.node.watches k ≡ None)) → OffThen k
       offs k (inl f) = still_off k (d.course k) f
       offs k (inr f) = now_off k f.0.0 f.0.1 f.1
 
@@ -410,13 +446,13 @@ module _ (w : World) (h : History) (x : Name) (n : Node) (hx : node_of w.nodes x
         (λ i. g.homes y v (sym (elsewhere y i) ∙ hv));
     enrolled = λ y v k u hv j. by_name _ x y
         (λ i. let r = d.enrolled k u (ap (λ (z : Node). fm.get z.registered k) (here_after y v i hv) ∙ j) in
-        (ap (λ (z : Node). living z u.target) (sym (here_after y v i hv)) ∙ r.0, inr r.1))
-        (λ i. let r = g.enrolled y v k u (sym (elsewhere y i) ∙ hv) j in (r.0, inr r.1));
+        (ap (λ (z : Node). living z u.held) (sym (here_after y v i hv)) ∙ r.0, inr r.1, r.2))
+        (λ i. let r = g.enrolled y v k u (sym (elsewhere y i) ∙ hv) j in (r.0, inr r.1, r.2));
     one = λ k. c_one k (d.course k);
     drawn = λ k. c_drawn k (d.course k);
     unanswered = λ k. c_unanswered k (d.course k);
     watching = λ y v k u hv j. by_name _ x y
-        (λ i. subst (λ z. Watch z v k u) i (subst (λ z. Watch x z k u) (here_after y v i hv)
+        (λ i. subst (λ z. Watched z v k u) i (subst (λ z. Watched x z k u) (here_after y v i hv)
         (c_here k u (d.course k) (ap (λ (z : Node). fm.get z.watches k) (here_after y v i hv) ∙ j))))
         (λ i. c_there y v k u i (sym (elsewhere y i) ∙ hv) j (d.course k));
     most = λ k. c_most k (d.course k);

@@ -7,7 +7,7 @@ use Rattle.std.proofs.lemmas.List.Elements.{All-head}
 use Rattle.std.proofs.lemmas.Bool.{and_parts}
 use Rattle.std.proofs.lemmas.Option.{same_Some, none-some}
 use Rattle.std.specs.List.{All}
-use Rattle.std.specs.Option.{is_some}
+use Rattle.std.specs.Option.{is_some, option_map}
 use Rattle.std.specs.FinMap as fm
 use Rattle.conn_core.specs.declared.arrival.Fault.{Fault}
 use Rattle.erl_handshake.specs.declared.fault.ShakeFault.{ShakeFault}
@@ -40,7 +40,7 @@ use Rattle.dist_model.specs.Histories.{History}
 use Rattle.dist_model.specs.Incarnations.{start, stop}
 use Rattle.dist_model.specs.Items.{Handshake, Item, Signalled, kind_of}
 use Rattle.dist_model.specs.Losses.{any_side, lose, sweep}
-use Rattle.dist_model.specs.Monitoring.{monitor, register, unwatch, watch}
+use Rattle.dist_model.specs.Monitoring.{monitor, pid_watch, register, registration_of, unwatch, watch}
 use Rattle.dist_model.specs.Names.{Name, same_name, same_pid}
 use Rattle.dist_model.specs.Node.{Node, living, is_stranger, reaches, route}
 use Rattle.dist_model.specs.Sides.{Gone, State, TrunkSide, Up, is_losing, is_up, is_over, lost}
@@ -58,9 +58,12 @@ use Rattle.erl_term.specs.declared.term.Reference.{Reference}
 use Rattle.exit_core.specs.Messages.{down_term}
 use Rattle.link_core.specs.News.{noconnection, noproc}
 use Rattle.erl_term.proofs.Order.{reference_cmp_total}
-use Rattle.monitor_core.specs.Monitors.{added, is_held, is_this, monitor_of, MonitorMap}
-use Rattle.monitor_core.specs.declared.monitor.Monitor.{Monitor}
+use Rattle.monitor_core.specs.Monitors.{MonitorMap, RegistrationMap, added, is_held, is_this, itself, same_target}
 use Rattle.dist_model.specs.Sides.{untold}
+use Rattle.monitor_core.specs.declared.monitor.Target.{Target}
+use Rattle.monitor_core.specs.declared.monitor.Watch.{Watch}
+use Rattle.monitor_core.specs.declared.monitor.Registration.{Registration}
+use Rattle.erl_term.specs.Data.{pid}
 
 pub any_go : (P : Answer → Work → Type 0) (k : Outcome) → ((a : Answer) (o : Work) → P a o) → AllGo k P
 any_go P (Refuses j) f = tt
@@ -70,69 +73,70 @@ no_signal : (i : Item) (m : ShakeMsg) (k : Reference) → handshake_in i ≡ Som
 no_signal (Handshake l) m k h = (refl, refl)
 no_signal _ m k h = absurd (none-some m h)
 
-added_there : (b : Bool) (m : MonitorMap) (r : Reference) (v : Monitor) → fm.contains_key m r ≡ b → (c : Monitor)
+added_there : (b : Bool) (m : RegistrationMap) (r : Reference) (v : Registration) → fm.contains_key m r ≡ b → (c : Registration)
     × (fm.get (cond b m (fm.insert m r v)) r ≡ Some c)
 added_there false m r v h = (v, fm.get-insert reference_cmp_total m r v r ∙ ap (λ b. cond b (Some v) (fm.get m r)) (same_reference_refl r))
 added_there true m r v h = go (fm.get m r) refl
   where
-    go : (o : Option Monitor) → fm.get m r ≡ o → (c : Monitor) × (fm.get m r ≡ Some c)
+    go : (o : Option Registration) → fm.get m r ≡ o → (c : Registration) × (fm.get m r ≡ Some c)
     go None j = let z : false ≡ true = sym (ap is_some j) ∙ h in cc
     go (Some c) j = (c, j)
 
 module _ (w : World) (h : History) (x : Name) (n : Node) (hx : node_of w.nodes x ≡ Some n) (gw : Good w) (g : Sound w h) where
   -- what a signal names is what its reference was answered for
-  names : (y : Name) (v : Node) (k r : Reference) (u : Monitor) (p q : Pid) → node_of w.nodes y ≡ Some v
-      → fm.get v.watches k ≡ Some u → same_reference k r ≡ true → Monitored r p q h → (p ≡ u.owner) × (q ≡ u.target)
+  names : (y : Name) (v : Node) (k r : Reference) (u : Watch) (p q : Pid) → node_of w.nodes y ≡ Some v
+      → fm.get v.watches k ≡ Some u → same_reference k r ≡ true → Monitored r p (Target.Pid q) h → (p ≡ u.owner) × (Target.Pid q ≡ u.target)
   names y v k r u p q hv i e c =
-      monitored_one k p q u.owner u.target h (g.one k) (subst (λ z. Monitored z p q h) (sym (same_reference_true k r e)) c)
+      monitored_one k p (Target.Pid q) u.owner u.target h (g.one k) (subst (λ z. Monitored z p (Target.Pid q) h) (sym (same_reference_true k r e)) c)
       (g.watching y v k u hv i).1
 
   -- ---- an item is taken, from a trunk or from the own list
 
   module _ (xs : List Item) where
     -- a MONITOR_P_EXIT ends its watch
-    end_taken : (i : Item) → IsFounded w h i → (k : Reference) (u : Monitor) → is_end k i ≡ true → fm.get n.watches k ≡ Some u
+    end_taken : (i : Item) → IsFounded w h i → (k : Reference) (u : Watch) → is_end k i ≡ true → fm.get n.watches k ≡ Some u
         → fm.get ((take_item n.mint.name i (at_work (record n { local = xs }))).node.watches) k ≡ Some u → ⊥
     end_taken (Signalled (Signal.MonitorExit q p r z) pay) f k u e j s =
         let one = names x n k r u p q hx j e f.1 in
         let kr : k ≡ r = same_reference_true k r e in
         let at : fm.get n.watches r ≡ Some u = ap (fm.get n.watches) (sym kr) ∙ j in
-        let held : is_held n.watches r (monitor_of p q) ≡ true =
-        ap (λ v. is_this v (monitor_of p q)) at ∙ ap (λ b. b && same_pid u.target q) (same_pid_is u.owner p (sym one.0))
-        ∙ same_pid_is u.target q (sym one.1) in
+        let held : is_held itself n.watches r (pid_watch p q) ≡ true =
+        ap (λ v. is_this (option_map itself v) (pid_watch p q)) at
+        ∙ ap (λ b. b && same_target u.target (Target.Pid q)) (same_pid_is u.owner p (sym one.0))
+        ∙ ap (λ z. same_target z (Target.Pid q)) (sym one.1) ∙ same_pid_is q q refl in
         let alive : living n p ≡ true = subst (λ v. living n v ≡ true) (sym one.0) (g.watching x n k u hx j).4 in
-        let both : (living n p && is_held n.watches r (monitor_of p q)) ≡ true =
-        ap (λ b. b && is_held n.watches r (monitor_of p q)) alive ∙ held in
-        let gone : fm.get ((cond (living n p && is_held n.watches r (monitor_of p q))
-        (put p (down_term r q z) (unwatch r (at_work (record n { local = xs }))))
+        let both : (living n p && is_held itself n.watches r (pid_watch p q)) ≡ true =
+        ap (λ b. b && is_held itself n.watches r (pid_watch p q)) alive ∙ held in
+        let gone : fm.get ((cond (living n p && is_held itself n.watches r (pid_watch p q))
+        (put p (down_term r (pid q) z) (unwatch r (at_work (record n { local = xs }))))
         (at_work (record n { local = xs }))).node.watches) k ≡ None =
-        ap (λ b. fm.get ((cond b (put p (down_term r q z) (unwatch r (at_work (record n { local = xs }))))
+        ap (λ b. fm.get ((cond b (put p (down_term r (pid q) z) (unwatch r (at_work (record n { local = xs }))))
         (at_work (record n { local = xs }))).node.watches) k) both
         ∙ fm.get-remove reference_cmp_total n.watches r k ∙ ap (λ b. cond b None (fm.get n.watches k)) e in
         none-some u (sym gone ∙ s)
     end_taken _ f k u e j s = cc
 
     -- a MONITOR_P is registered, or answered
-    abbrev Answered : Item → Reference → Monitor → Work → Type 0
-    Answered i k u o = ((b : Monitor) × (fm.get o.node.registered k ≡ Some b)) ⊎ Lands (is_end k) n u.owner.node o
+    abbrev Answered : Item → Reference → Watch → Work → Type 0
+    Answered i k u o = ((b : Registration) × (fm.get o.node.registered k ≡ Some b)) ⊎ Lands (is_end k) n u.owner.node o
 
-    call_taken : (i : Item) → IsFounded w h i → (y : Name) (v : Node) (k : Reference) (u : Monitor)
+    call_taken : (i : Item) → IsFounded w h i → (y : Name) (v : Node) (k : Reference) (u : Watch)
         → node_of w.nodes y ≡ Some v → fm.get v.watches k ≡ Some u → is_call k i ≡ true
         → Answered i k u (take_item n.mint.name i (at_work (record n { local = xs })))
     call_taken (Signalled (Signal.Monitor p q r) pay) f y v k u hv j e = go (living n q)
       where
-        one : (p ≡ u.owner) × (q ≡ u.target)
+        one : (p ≡ u.owner) × (Target.Pid q ≡ u.target)
         one = names y v k r u p q hv j e f
 
         kr : r ≡ k
         kr = sym (same_reference_true k r e)
 
         go : (b : Bool) → Answered (Signalled (Signal.Monitor p q r) pay) k u (cond b
-            (register r (monitor_of p q) (at_work (record n { local = xs })))
+            (register r (registration_of p q) (at_work (record n { local = xs })))
             (post (to_pid p (Signal.MonitorExit q p r noproc)) (at_work (record n { local = xs }))))
         go true =
-            inl (subst (λ z. (b : Monitor) × (fm.get (added n.registered r (monitor_of p q)) z ≡ Some b)) kr
-            (added_there (fm.contains_key n.registered r) n.registered r (monitor_of p q) refl))
+            inl (subst (λ z. (b : Registration) × (fm.get (added n.registered r (registration_of p q)) z ≡ Some b)) kr
+            (added_there (fm.contains_key n.registered r) n.registered r (registration_of p q) refl))
         go false =
             inr (subst
             (λ (z : Pid). Lands (is_end k) n z.node (post (to_pid p (Signal.MonitorExit q p r noproc)) (at_work (record n { local = xs })))) one.0
@@ -144,7 +148,7 @@ module _ (w : World) (h : History) (x : Name) (n : Node) (hx : node_of w.nodes x
     sides_taken : (i : Item) → (k : Reference) → is_call k i ≡ true → (take_item n.mint.name i (at_work (record n { local = xs }))).node.sides ≡ n.sides
     sides_taken (Signalled (Signal.Monitor p q r) pay) k e = go (living n q)
       where
-        go : (b : Bool) → (cond b (register r (monitor_of p q) (at_work (record n { local = xs })))
+        go : (b : Bool) → (cond b (register r (registration_of p q) (at_work (record n { local = xs })))
             (post (to_pid p (Signal.MonitorExit q p r noproc)) (at_work (record n { local = xs })))).node.sides ≡ n.sides
         go true = refl
         go false =
@@ -154,7 +158,7 @@ module _ (w : World) (h : History) (x : Name) (n : Node) (hx : node_of w.nodes x
 
   -- whom a MONITOR_P that passes is from
   call_from : (v : TrunkSide) (i : Item) → is_good n v i ≡ true → IsFounded w h i
-      → (y : Name) (m : Node) (k : Reference) (u : Monitor) → node_of w.nodes y ≡ Some m → fm.get m.watches k ≡ Some u
+      → (y : Name) (m : Node) (k : Reference) (u : Watch) → node_of w.nodes y ≡ Some m → fm.get m.watches k ≡ Some u
       → is_call k i ≡ true → u.owner.node ≡ v.peer
   call_from v (Signalled (Signal.Monitor p q r) pay) good f y m k u hm j e =
       ap (λ (z : Pid). z.node) (sym (names y m k r u p q hm j e f).0) ∙ is_from_peer v p (and_parts (is_from v p) (is_to n q) good).0
@@ -164,9 +168,9 @@ module _ (w : World) (h : History) (x : Name) (n : Node) (hx : node_of w.nodes x
 
   module _ (t : TrunkId) (k0 : ℕ) (i : Item) (fi : IsFounded w h i) where
     pub record Facts (a : Answer) (o : Work) : Type 0 where
-      pub ends : (k : Reference) (u : Monitor) → is_end k i ≡ true → fm.get n.watches k ≡ Some u
+      pub ends : (k : Reference) (u : Watch) → is_end k i ≡ true → fm.get n.watches k ≡ Some u
           → fm.get o.node.watches k ≡ Some u → (b : TrunkSide) → side_at o.node t ≡ Some b → is_over b.state ≡ true
-      pub calls : (k : Reference) (y : Name) (v : Node) (u : Monitor) → is_call k i ≡ true → (x ≡ y → ⊥)
+      pub calls : (k : Reference) (y : Name) (v : Node) (u : Watch) → is_call k i ≡ true → (x ≡ y → ⊥)
           → node_of w.nodes y ≡ Some v → fm.get v.watches k ≡ Some u → TakenCall o t y k
 
     at_fault : (s : TrunkSide) → side_at ((set_state t s (lost s.state) (at_work n)).node) t ≡ Some (as_state s (lost s.state))
@@ -199,9 +203,9 @@ module _ (w : World) (h : History) (x : Name) (n : Node) (hx : node_of w.nodes x
         calls = λ k y m u e dy hm c. calls k y m u e dy hm c (call_taken n.local i fi y m k u hm c e);
       }
         where
-          calls : (k : Reference) (y : Name) (m : Node) (u : Monitor) → is_call k i ≡ true → (x ≡ y → ⊥)
+          calls : (k : Reference) (y : Name) (m : Node) (u : Watch) → is_call k i ≡ true → (x ≡ y → ⊥)
               → node_of w.nodes y ≡ Some m → fm.get m.watches k ≡ Some u
-              → ((b : Monitor) × (fm.get ((take_item v.peer i (at_work n)).node.registered) k ≡ Some b))
+              → ((b : Registration) × (fm.get ((take_item v.peer i (at_work n)).node.registered) k ≡ Some b))
               ⊎ Lands (is_end k) n u.owner.node (take_item v.peer i (at_work n)) → TakenCall (take_item v.peer i (at_work n)) t y k
           calls k y m u e dy hm c (inl b) = inr (inl (v, b.0, ap (λ z. fm.get z t) (sides_taken n.local i k e) ∙ at, up, b.1))
           calls k y m u e dy hm c (inr z) =
@@ -231,7 +235,7 @@ module _ (w : World) (h : History) (x : Name) (n : Node) (hx : node_of w.nodes x
   -- ---- a call of Monitor
 
   abbrev pub Fresh : Answer → Work → Type 0
-  Fresh a o = (k : Reference) (u : Monitor) → fm.get n.watches k ≡ None → fm.get o.node.watches k ≡ Some u → NewWatch n o k u
+  Fresh a o = (k : Reference) (u : Watch) → fm.get n.watches k ≡ None → fm.get o.node.watches k ≡ Some u → NewWatch n o k u
 
   monitor_fresh : (p q : Pid) (id : ℕ)
       → Fresh (Answer.Reference (reference_of n.mint id)) (monitor (reference_of n.mint id) p q (draw kind.Reference (at_work n)))
@@ -239,36 +243,36 @@ module _ (w : World) (h : History) (x : Name) (n : Node) (hx : node_of w.nodes x
     where
       reached : reaches n q.node ≡ true → Fresh (Answer.Reference (reference_of n.mint id)) (post
           (to_pid q (Signal.Monitor p q (reference_of n.mint id)))
-          (watch (reference_of n.mint id) (monitor_of p q) (draw kind.Reference (at_work n))))
+          (watch (reference_of n.mint id) (pid_watch p q) (draw kind.Reference (at_work n))))
       reached far k u i j =
           pick (same_reference k (reference_of n.mint id)) refl
-          (sym (ap (λ z. fm.get z k) ws ∙ fm.get-insert reference_cmp_total n.watches (reference_of n.mint id) (monitor_of p q) k) ∙ j)
+          (sym (ap (λ z. fm.get z k) ws ∙ fm.get-insert reference_cmp_total n.watches (reference_of n.mint id) (pid_watch p q) k) ∙ j)
         where
           ws : (post (to_pid q (Signal.Monitor p q (reference_of n.mint id)))
-              (watch (reference_of n.mint id) (monitor_of p q) (draw kind.Reference (at_work n)))).node.watches ≡ (watch
-              (reference_of n.mint id) (monitor_of p q) (draw kind.Reference (at_work n))).node.watches
+              (watch (reference_of n.mint id) (pid_watch p q) (draw kind.Reference (at_work n)))).node.watches ≡ (watch
+              (reference_of n.mint id) (pid_watch p q) (draw kind.Reference (at_work n))).node.watches
           ws = posts_keep (λ m. m.watches) (λ m z. refl) q.node (Signalled (Signal.Monitor p q (reference_of n.mint id)) false)
-              (watch (reference_of n.mint id) (monitor_of p q) (draw kind.Reference (at_work n)))
+              (watch (reference_of n.mint id) (pid_watch p q) (draw kind.Reference (at_work n)))
 
           sd : (post (to_pid q (Signal.Monitor p q (reference_of n.mint id)))
-              (watch (reference_of n.mint id) (monitor_of p q) (draw kind.Reference (at_work n)))).node.sides ≡ n.sides
+              (watch (reference_of n.mint id) (pid_watch p q) (draw kind.Reference (at_work n)))).node.sides ≡ n.sides
           sd = posts_keep (λ m. m.sides) (λ m z. refl) q.node (Signalled (Signal.Monitor p q (reference_of n.mint id)) false)
-              (watch (reference_of n.mint id) (monitor_of p q) (draw kind.Reference (at_work n)))
+              (watch (reference_of n.mint id) (pid_watch p q) (draw kind.Reference (at_work n)))
 
           routed : (c : Option TrunkId) → route n q.node ≡ c → same_name q.node n.mint.name ≡ false → (t : TrunkId)
               × (route n q.node ≡ Some t)
           routed None r own = let z : true ≡ false = sym far ∙ ap (λ b. b || is_some (route n q.node)) own ∙ ap is_some r in cc
           routed (Some t) r own = (t, r)
 
-          pick : (b : Bool) → same_reference k (reference_of n.mint id) ≡ b → cond b (Some (monitor_of p q)) (fm.get n.watches k) ≡ Some u
+          pick : (b : Bool) → same_reference k (reference_of n.mint id) ≡ b → cond b (Some (pid_watch p q)) (fm.get n.watches k) ≡ Some u
               → NewWatch n (post (to_pid q (Signal.Monitor p q (reference_of n.mint id)))
-              (watch (reference_of n.mint id) (monitor_of p q) (draw kind.Reference (at_work n)))) k u
+              (watch (reference_of n.mint id) (pid_watch p q) (draw kind.Reference (at_work n)))) k u
           pick false e c = absurd (none-some u (sym i ∙ c))
           pick true e c =
               subst (λ z. NewWatch n (post (to_pid q (Signal.Monitor p q (reference_of n.mint id)))
-              (watch (reference_of n.mint id) (monitor_of p q) (draw kind.Reference (at_work n)))) k z) (same_Some (monitor_of p q) u c)
+              (watch (reference_of n.mint id) (pid_watch p q) (draw kind.Reference (at_work n)))) k z) (same_Some (pid_watch p q) u c)
               (let ld = lands_one (is_call k) n (to_pid q (Signal.Monitor p q (reference_of n.mint id)))
-              (watch (reference_of n.mint id) (monitor_of p q) (draw kind.Reference (at_work n))) refl refl e in (
+              (watch (reference_of n.mint id) (pid_watch p q) (draw kind.Reference (at_work n))) refl refl e in (
                 λ own. ld.0 own,
                 λ own. let r =
                     routed (route n q.node) refl own in let s = route_from n q.node r.0 r.1 in
@@ -280,8 +284,8 @@ module _ (w : World) (h : History) (x : Name) (n : Node) (hx : node_of w.nodes x
 
       go : (b : Bool) → reaches n q.node ≡ b → Fresh (Answer.Reference (reference_of n.mint id)) (cond b (post
           (to_pid q (Signal.Monitor p q (reference_of n.mint id)))
-          (watch (reference_of n.mint id) (monitor_of p q) (draw kind.Reference (at_work n)))) (put p
-          (down_term (reference_of n.mint id) q noconnection) (draw kind.Reference (at_work n))))
+          (watch (reference_of n.mint id) (pid_watch p q) (draw kind.Reference (at_work n)))) (put p
+          (down_term (reference_of n.mint id) (pid q) noconnection) (draw kind.Reference (at_work n))))
       go true far = reached far
       go false far = λ k u i j. absurd (none-some u (sym i ∙ j))
 
@@ -402,14 +406,14 @@ module _ (w : World) (h : History) (x : Name) (n : Node) (hx : node_of w.nodes x
             go true e z = inr e
             go false e z = inl z
 
-        home_call : (k : Reference) (u : Monitor) → is_call k i ≡ true → fm.get n.watches k ≡ Some u
-            → ((b : Monitor) × (fm.get ((take_item n.mint.name i (at_work (record n { local = xs }))).node.registered) k ≡ Some b))
+        home_call : (k : Reference) (u : Watch) → is_call k i ≡ true → fm.get n.watches k ≡ Some u
+            → ((b : Registration) × (fm.get ((take_item n.mint.name i (at_work (record n { local = xs }))).node.registered) k ≡ Some b))
             ⊎ (has (is_end k) ((take_item n.mint.name i (at_work (record n { local = xs }))).node.local) ≡ true)
         home_call k u e c = go (call_taken xs i fi x n k u hx c e)
           where
-            go : ((b : Monitor) × (fm.get ((take_item n.mint.name i (at_work (record n { local = xs }))).node.registered) k ≡ Some b))
+            go : ((b : Registration) × (fm.get ((take_item n.mint.name i (at_work (record n { local = xs }))).node.registered) k ≡ Some b))
                 ⊎ Lands (is_end k) n u.owner.node (take_item n.mint.name i (at_work (record n { local = xs })))
-                → ((b : Monitor) × (fm.get ((take_item n.mint.name i (at_work (record n { local = xs }))).node.registered) k ≡ Some b))
+                → ((b : Registration) × (fm.get ((take_item n.mint.name i (at_work (record n { local = xs }))).node.registered) k ≡ Some b))
                 ⊎ (has (is_end k) ((take_item n.mint.name i (at_work (record n { local = xs }))).node.local) ≡ true)
             go (inl b) = inl b
             go (inr z) =

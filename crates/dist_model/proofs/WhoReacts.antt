@@ -34,13 +34,13 @@ use Rattle.dist_model.proofs.Records.{has_records, least_as, sweep_link, sweep_r
 use Rattle.dist_model.proofs.Truths.{nothing}
 use Rattle.dist_model.specs.Losses.{any_side, link_to, lose, lose_at, released_by, release_parked}
 use Rattle.dist_model.specs.Losses.{registered_by, sweep, sweep_by, sweep_end, close_if_swept, watch_to}
-use Rattle.dist_model.specs.Monitoring.{demonitor_by, unwatch, watch}
+use Rattle.dist_model.specs.Monitoring.{demonitor_by, pid_watch, unwatch, watch}
 use Rattle.dist_model.specs.Names.{Name, place_cmp, same_name, same_pid}
 use Rattle.dist_model.specs.Node.{Node, end_of, living, is_stranger, reaches, side_where}
 use Rattle.dist_model.specs.Seen.{end_between}
 use Rattle.dist_model.specs.Sides.{Accepting, Asked, AwaitsAck, AwaitsChallenge, AwaitsStatus, Gone, Losing, Parked}
 use Rattle.dist_model.specs.Sides.{State, TrunkSide, Up, is_dialing, is_gone, is_losing, is_parked, is_up, is_waiting}
-use Rattle.dist_model.specs.Work.{Work, at_work, draw, set_end, spelled, to_pid}
+use Rattle.dist_model.specs.Work.{Work, at_work, draw, post_all, set_end, spelled, to_pid}
 use Rattle.dist_model.specs.World.{Arrive, Call, Dial, Event, Local, Lose, Refused, Report, Start}
 use Rattle.dist_model.specs.World.{Stop, Sweep, World, came_of, node_name, node_of, step, step_at}
 use Rattle.erl_control.specs.declared.signal.Signal.{Signal}
@@ -52,7 +52,7 @@ use Rattle.erl_names.specs.Ids.{reference_of}
 use Rattle.erl_names.specs.Minted.{id_of}
 use Rattle.erl_names.specs.Order.{name_cmp}
 use Rattle.erl_names.specs.declared.trunk.TrunkId.{TrunkId}
-use Rattle.erl_term.specs.Data.{Data}
+use Rattle.erl_term.specs.Data.{Data, pid}
 use Rattle.erl_term.specs.declared.refusal.Refusal.{Refusal}
 use Rattle.erl_term.specs.declared.term.Pid.{Pid}
 use Rattle.erl_term.specs.declared.term.Reference.{Reference}
@@ -60,12 +60,14 @@ use Rattle.exit_core.specs.Messages.{down_term}
 use Rattle.link_core.specs.News.{Signals, noconnection}
 use Rattle.link_core.specs.declared.end.End.{End}
 use Rattle.link_core.specs.declared.end.LinkSignal.{LinkSignal}
-use Rattle.monitor_core.specs.Monitors.{monitor_of}
-use Rattle.monitor_core.specs.declared.monitor.Monitor.{Monitor}
 use Rattle.std.specs.FinMap.{FinMap}
 use Rattle.dist_model.proofs.HeldActive.{reacts_in, reacts, told, Calm, calm_send, calm_post, calm_put}
 use Rattle.dist_model.proofs.HeldActive.{calm_finish, exit_of, Held, held_at, calm_cond, item_taken}
 use Rattle.erl_handshake.specs.Roles.{introduction_by}
+use Rattle.monitor_core.specs.declared.monitor.Target.{Target}
+use Rattle.monitor_core.specs.declared.monitor.Watch.{Watch}
+use Rattle.monitor_core.specs.declared.monitor.Registration.{Registration}
+use Rattle.dist_model.specs.Telling.{object, taken_back}
 
 -- calls
 on_drawn : (o : Option ℕ) (k : ℕ → Outcome) (P : Work → Type 0) → ((id : ℕ) → IfGoes (k id) P) → IfGoes (with_id o k) P
@@ -112,12 +114,16 @@ module _ (n : Node) where
       (set_end a b (End.Pending id) (draw kind.UnlinkId (at_work n))) p q h))
   unlinks_on _ a b = λ p q h. nothing h
 
-  demonitors_on : (v : Option Monitor) (a : Pid) (k : Reference)
+  calm_back : (t : Target) (a : Pid) (k : Reference) (o : Work) → Calm o (post_all (taken_back a t k) o)
+  calm_back (Target.Pid q) a k o = calm_post q.node (Signalled (Signal.Demonitor a q k) false) o
+  calm_back (Target.Name name node) a k o = λ p q h. h
+
+  demonitors_on : (v : Option Watch) (a : Pid) (k : Reference)
       → IfGoes (demonitor_by v a k (at_work n)) (OwnLink n (Command.Demonitor a k))
   demonitors_on None a k = tt
   demonitors_on (Some v) a k =
       if_cond (same_pid v.owner a) _ Refusal.NotTheOwner (OwnLink n (Command.Demonitor a k))
-      (λ i p q h. nothing (calm_post v.target.node (Signalled (Signal.Demonitor a v.target k) false) (unwatch k (at_work n)) p q h))
+      (λ i p q h. nothing (calm_back v.target a k (unwatch k (at_work n)) p q h))
 
   pub called : (c : Command) → IfGoes (call n c) (OwnLink n c)
   called Command.Spawn = on_drawn (id_of n.mint kind.Pid) _ (OwnLink n Command.Spawn) (λ id p q h. nothing h)
@@ -130,8 +136,8 @@ module _ (n : Node) where
       acts_on (Command.Monitor a b) a b _ (λ l. on_drawn (id_of n.mint kind.Reference) _ (OwnLink n (Command.Monitor a b))
       (λ count p q h. nothing (calm_cond (reaches n b.node) (at_work n) _ _
       (calm_post b.node (Signalled (Signal.Monitor a b (reference_of n.mint count)) false)
-      (watch (reference_of n.mint count) (monitor_of a b) (draw kind.Reference (at_work n))))
-      (calm_put a (down_term (reference_of n.mint count) b noconnection) (draw kind.Reference (at_work n))) p q h)))
+      (watch (reference_of n.mint count) (pid_watch a b) (draw kind.Reference (at_work n))))
+      (calm_put a (down_term (reference_of n.mint count) (pid b) noconnection) (draw kind.Reference (at_work n))) p q h)))
   called (Command.Demonitor a k) =
       if_cond (living n a) _ Refusal.NoSuchProcess (OwnLink n (Command.Demonitor a k)) (λ l. demonitors_on (fm.get n.watches k) a k)
   called (Command.Trap a b) = if_cond (living n a) _ Refusal.NoSuchProcess (OwnLink n (Command.Trap a b)) (λ l p q h. nothing h)
@@ -161,13 +167,13 @@ calm_swept t s o p q h = go (has_records s.peer o.node) h
     go true h = h
     go false h = calm_goes (side_where is_parked s.peer (fm.entries ((set_state t s Gone o).node.sides))) (set_state t s Gone o) p q h
 
-calm_unregistered : (d : Option (Reference × Monitor)) (o : Work) → Calm o (sweep_registered d o)
+calm_unregistered : (d : Option (Reference × Registration)) (o : Work) → Calm o (sweep_registered d o)
 calm_unregistered None o p q h = h
 calm_unregistered (Some d) o p q h = h
 
-calm_unwatched : (d : Option (Reference × Monitor)) (y : Name) (o : Work) → Calm o (sweep_watch d y o)
+calm_unwatched : (d : Option (Reference × Watch)) (y : Name) (o : Work) → Calm o (sweep_watch d y o)
 calm_unwatched None y o p q h = calm_unregistered (registered_by y (fm.entries o.node.registered)) o p q h
-calm_unwatched (Some d) y o p q h = calm_put d.1.owner (down_term d.0 d.1.target noconnection) (unwatch d.0 o) p q h
+calm_unwatched (Some d) y o p q h = calm_put d.1.owner (down_term d.0 (object d.1.target) noconnection) (unwatch d.0 o) p q h
 
 abbrev pub HeldBefore : Node → Work → Type 0
 HeldBefore n o = (p q : Pid) → reacts_in p q o.effects ≡ true → Held n p q

@@ -1,6 +1,6 @@
 -- The monitors of a run by their references: which calls began and ended them, and the DOWN messages that came of them.
 -- (Reference Manual, Processes, Monitors.)
-use Rattle.std.specs.Prelude.{◌≡◌, ◌⊎◌, ℕ, ◌+◌, Bool, true, false, if◌then◌else◌, List, [], ◌∷◌, ◌++◌, ◌&&◌, codes, nat_eq}
+use Rattle.std.specs.Prelude.{◌≡◌, ◌⊎◌, ℕ, ◌+◌, Bool, true, false, if◌then◌else◌, List, [], ◌∷◌, ◌++◌, ◌&&◌, codes, nat_eq, Option, None, Some}
 use Rattle.std.specs.Cmp.Lexicographic.{pointwise}
 use Rattle.std.specs.Ordering.{eq_by_cmp}
 use Rattle.dist_model.specs.declared.report.Answer.{Answer}
@@ -12,6 +12,7 @@ use Rattle.dist_model.specs.declared.report.Effect.{Effect}
 use Rattle.dist_model.specs.World.{Arrive, Call, Event, Local, Refused, Report, Reported}
 use Rattle.erl_term.specs.Data.{Data, atom, item, no_items, pid, reference, tuple}
 use Rattle.erl_term.specs.declared.term.Pid.{Pid}
+use Rattle.monitor_core.specs.declared.monitor.Target.{Target}
 use Rattle.erl_term.specs.declared.term.Reference.{Reference}
 use Rattle.erl_term.specs.Order.{reference_cmp}
 
@@ -30,11 +31,16 @@ abbrev pub answers : Reference → History → ℕ
 answers r [] = 0
 answers r (last ∷ before) = (if is_answered r last.event last.report then 1 else 0) + answers r before
 
--- p monitors q under it
-abbrev pub Monitored : Reference → Pid → Pid → History → Type 0
-Monitored r p q [] = ⊥
-Monitored r p q (last ∷ before) =
-    ((last.event ≡ Call p.node (Command.Monitor p q)) × (is_answered r last.event last.report ≡ true)) ⊎ Monitored r p q before
+-- it is the call by which p monitors the target. No call names a target by its name
+abbrev pub IsCallOf : Pid → Target → Event → Type 0
+IsCallOf p (Target.Pid q) event = event ≡ Call p.node (Command.Monitor p q)
+IsCallOf p (Target.Name name node) event = ⊥
+
+-- p monitors the target under it
+abbrev pub Monitored : Reference → Pid → Target → History → Type 0
+Monitored r p target [] = ⊥
+Monitored r p target (last ∷ before) =
+    (IsCallOf p target last.event × (is_answered r last.event last.report ≡ true)) ⊎ Monitored r p target before
 
 -- a Demonitor call for it went through
 abbrev pub is_demonitored : Reference → Event → Report → Bool
@@ -47,17 +53,27 @@ Demonitored r (last ∷ before) = (is_demonitored r last.event last.report ≡ t
 
 -- ---- the messages
 
--- to whom one was put, of which process, and with which reason
+-- its receiver, its target, and its reason
 pub record Down : Type 0 where
   pub owner : Pid
-  pub target : Pid
+  pub target : Target
   pub info : Data
 
--- {'DOWN', Ref, process, Pid, Info}
+-- Pid, or {Name, Node}
+abbrev pub target_in : Data → Option Target
+target_in (pid p) = Some (Target.Pid p)
+target_in (tuple (item (atom name) (item (atom node) no_items))) = Some (Target.Name name node)
+target_in _ = None
+
+abbrev pub down_of : Pid → Option Target → Data → List Down
+down_of owner None info = []
+down_of owner (Some target) info = (record { owner = owner; target = target; info = info }) ∷ []
+
+-- {'DOWN', Ref, process, Object, Info}
 abbrev pub down_in : Reference → Pid → Data → List Down
-down_in r owner (tuple (item (atom name) (item (reference of) (item (atom kind) (item (pid target) (item info no_items)))))) =
+down_in r owner (tuple (item (atom name) (item (reference of) (item (atom kind) (item object (item info no_items)))))) =
     if pointwise nat_eq name (codes "DOWN") && same_reference r of && pointwise nat_eq kind (codes "process")
-    then (record { owner = owner; target = target; info = info }) ∷ []
+    then down_of owner (target_in object) info
     else []
 down_in r owner _ = []
 

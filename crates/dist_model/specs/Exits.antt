@@ -5,6 +5,7 @@ use Rattle.std.specs.Prelude.{true, false, not, if◌then◌else◌, List, [], �
 use Rattle.std.specs.FinMap as fm
 use Rattle.dist_model.specs.Names.{same_pid}
 use Rattle.dist_model.specs.Node.{Ended, ends_of, traps}
+use Rattle.dist_model.specs.Telling.{taken_back, told_end}
 use Rattle.dist_model.specs.Work.{Addressed, Work, post_all, put, report, to_pid}
 use Rattle.dist_model.specs.declared.report.Effect.{Effect}
 use Rattle.erl_control.specs.declared.signal.Signal.{Signal}
@@ -16,8 +17,9 @@ use Rattle.exit_core.specs.declared.reaction.ExitSignal.{ExitSignal}
 use Rattle.exit_core.specs.declared.reaction.Reaction.{Reaction}
 use Rattle.link_core.specs.Table.{is_active}
 use Rattle.link_core.specs.declared.end.End.{End}
-pub use Rattle.monitor_core.specs.Left.{is_owned, is_target, without_owner, without_target}
-use Rattle.monitor_core.specs.declared.monitor.Monitor.{Monitor}
+pub use Rattle.monitor_core.specs.Left.{is_bound, is_owned, without_held, without_owner}
+use Rattle.monitor_core.specs.declared.monitor.Registration.{Registration}
+use Rattle.monitor_core.specs.declared.monitor.Watch.{Watch}
 
 -- ---- a process ends
 
@@ -28,15 +30,15 @@ exit_for p reason q end = if is_active end then to_pid q (Signal.Exit p q reason
 abbrev pub exits : Pid → Data → List (Pid × End) → List Addressed
 exits p reason = flat_map (λ link. exit_for p reason link.0 link.1)
 
--- MONITOR_P_EXIT to the owner of each monitor that others have of it
-abbrev pub monitor_exits : Pid → Data → List (Reference × Monitor) → List Addressed
+-- MONITOR_P_EXIT to the owner of each monitor that is bound to it
+abbrev pub monitor_exits : Pid → Data → List (Reference × Registration) → List Addressed
 monitor_exits p reason = flat_map (λ entry.
-    if same_pid entry.1.target p then to_pid entry.1.owner (Signal.MonitorExit p entry.1.owner entry.0 reason) ∷ [] else [])
+    if same_pid entry.1.held p then told_end entry.1.target entry.1.owner entry.0 reason else [])
 
 -- DEMONITOR_P for each of its own monitors
-abbrev pub demonitors : Pid → List (Reference × Monitor) → List Addressed
+abbrev pub demonitors : Pid → List (Reference × Watch) → List Addressed
 demonitors p = flat_map (λ entry.
-    if same_pid entry.1.owner p then to_pid entry.1.target (Signal.Demonitor p entry.1.target entry.0) ∷ [] else [])
+    if same_pid entry.1.owner p then taken_back p entry.1.target entry.0 else [])
 
 -- its mailbox and its records go, and it keeps its reason
 abbrev pub buried : Pid → Data → Work → Work
@@ -45,7 +47,7 @@ buried p reason work = record work {
     lives = fm.insert work.node.lives p (Ended reason);
     ends = fm.retain_keys work.node.ends (λ pair. not (same_pid pair.0 p));
     watches = without_owner work.node.watches p;
-    registered = without_target work.node.registered p;
+    registered = without_held work.node.registered p;
   };
   effects = work.effects ++ Effect.Ended p reason ∷ [];
 }

@@ -17,8 +17,9 @@ use Rattle.erl_term.specs.Data.{Data}
 use Rattle.erl_term.specs.declared.term.Pid.{Pid}
 use Rattle.erl_term.specs.declared.term.Reference.{Reference}
 use Rattle.link_core.specs.declared.end.End.{End}
-use Rattle.monitor_core.specs.Monitors.{monitor_of}
-use Rattle.monitor_core.specs.declared.monitor.Monitor.{Monitor}
+use Rattle.dist_model.specs.Monitoring.{registration_of}
+use Rattle.monitor_core.specs.declared.monitor.Registration.{Registration}
+use Rattle.monitor_core.specs.declared.monitor.Target.{Target}
 
 -- ---- Reactions. (Reference Manual, Processes, Links and Receiving Exit Signals)
 
@@ -52,7 +53,7 @@ AnsweredOnce history world = (r : Reference) → answers r history ≤ 1
 abbrev pub DownOnce : History → World → Type 0
 DownOnce history world = (r : Reference) → length (downs r history) ≤ 1
 
--- to the process that made the call, for the process that it named: the pid whole, and so the incarnation
+-- to the process that made the call, for the target that it named: a pid whole, and so the incarnation
 abbrev pub DownToTheOwner : History → World → Type 0
 DownToTheOwner history world = (r : Reference) (down : Down) → Contains (downs r history) down
     → Monitored r down.owner down.target history
@@ -64,23 +65,23 @@ NoDownWhereDemonitored history world = (r : Reference) → Demonitored r history
 -- the info of each DOWN that a report tells is true
 abbrev pub DownsRightly : History → World → Event → Report → Type 0
 DownsRightly history world event report = (r : Reference) (down : Down) → Contains (downs_by r event report) down
-    → TrueCause history world down.owner down.target down.info
+    → (q : Pid) × (down.target ≡ Target.Pid q) × TrueCause history world down.owner q down.info
 
 -- so with whatever comes next
 abbrev pub DownsTellTrueCause : History → World → Type 0
 DownsTellTrueCause history world = (event : Event) → DownsRightly history world event ((step world event).report)
 
-abbrev pub registered_at : Option Node → Reference → Option Monitor
+abbrev pub registered_at : Option Node → Reference → Option Registration
 registered_at None r = None
 registered_at (Some node) r = fm.get node.registered r
 
 -- q is living, and its node holds p's monitor of it under the reference
 abbrev pub IsRegistered : World → Reference → Pid → Pid → Type 0
-IsRegistered world r p q = (is_living world q ≡ true) × (registered_at (node_of world.nodes q.node) r ≡ Some (monitor_of p q))
+IsRegistered world r p q = (is_living world q ≡ true) × (registered_at (node_of world.nodes q.node) r ≡ Some (registration_of p q))
 
 -- whenever nothing travels between them, a living owner that didn't take its monitor back has got its DOWN, or the target is living
 -- and registered
 abbrev pub DownOrRegistered : History → World → Type 0
-DownOrRegistered history world = (r : Reference) (p q : Pid) → Monitored r p q history → is_living world p ≡ true
+DownOrRegistered history world = (r : Reference) (p q : Pid) → Monitored r p (Target.Pid q) history → is_living world p ≡ true
     → (Demonitored r history → ⊥) → Quiet world p q
     → (length (downs r history) ≡ 1) ⊎ IsRegistered world r p q

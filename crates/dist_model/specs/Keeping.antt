@@ -16,7 +16,8 @@ use Rattle.erl_names.specs.declared.trunk.TrunkId.{TrunkId}
 use Rattle.erl_term.specs.declared.term.Pid.{Pid}
 use Rattle.erl_term.specs.declared.term.Reference.{Reference}
 use Rattle.link_core.specs.declared.end.End.{End}
-use Rattle.monitor_core.specs.declared.monitor.Monitor.{Monitor}
+use Rattle.monitor_core.specs.declared.monitor.Registration.{Registration}
+use Rattle.monitor_core.specs.declared.monitor.Watch.{Watch}
 
 abbrev pub IsAccepted : Outcome → Type 0
 IsAccepted outcome = (answer : Answer) × (work : Work) × (outcome ≡ Accepts answer work)
@@ -69,10 +70,10 @@ AtMostOne test node = (t u : TrunkId) (s v : TrunkSide) → fm.get node.sides t 
 pub record Steady (node : Node) : Type 0 where
   pub engaged : AtMostOne is_engaged node
   pub attempts : AtMostOne is_attempt node
-  -- links and monitors are of living processes
+  -- links and monitors are of living processes, and bound to such
   pub ends : (p q : Pid) → end_of node p q ≢ End.None → living node p ≡ true
-  pub owners : (r : Reference) (m : Monitor) → fm.get node.watches r ≡ Some m → living node m.owner ≡ true
-  pub targets : (r : Reference) (m : Monitor) → fm.get node.registered r ≡ Some m → living node m.target ≡ true
+  pub owners : (r : Reference) (m : Watch) → fm.get node.watches r ≡ Some m → living node m.owner ≡ true
+  pub bound : (r : Reference) (m : Registration) → fm.get node.registered r ≡ Some m → living node m.held ≡ true
 
 -- ---- the trunks of which a node is the dialer
 

@@ -9,6 +9,7 @@ pub mod Linking
 pub mod Tabled
 pub mod Monitoring
 pub mod Taking
+pub mod Telling
 pub mod Calls
 pub mod Handshake
 pub mod Admission

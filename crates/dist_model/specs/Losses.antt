@@ -21,7 +21,10 @@ use Rattle.exit_core.specs.Messages.{down_term}
 use Rattle.link_core.specs.News.{noconnection}
 use Rattle.link_core.specs.Table.{is_active}
 use Rattle.link_core.specs.declared.end.End.{End}
-use Rattle.monitor_core.specs.declared.monitor.Monitor.{Monitor}
+use Rattle.dist_model.specs.Telling.{object}
+use Rattle.monitor_core.specs.Monitors.{target_node}
+use Rattle.monitor_core.specs.declared.monitor.Registration.{Registration}
+use Rattle.monitor_core.specs.declared.monitor.Watch.{Watch}
 
 -- ---- the node notices a loss
 
@@ -39,15 +42,15 @@ lose node trunk (Some side) = lose_at side.state trunk side (at_work node)
 abbrev pub link_to : Name → List ((Pid × Pid) × End) → Option ((Pid × Pid) × End)
 link_to peer = first_where (λ pair end. same_name pair.1.node peer)
 
-abbrev pub watch_to : Name → List (Reference × Monitor) → Option (Reference × Monitor)
-watch_to peer = first_where (λ r monitor. same_name monitor.target.node peer)
+abbrev pub watch_to : Name → List (Reference × Watch) → Option (Reference × Watch)
+watch_to peer = first_where (λ r watch. same_name (target_node watch.target) peer)
 
-abbrev pub registered_by : Name → List (Reference × Monitor) → Option (Reference × Monitor)
+abbrev pub registered_by : Name → List (Reference × Registration) → Option (Reference × Registration)
 registered_by peer = first_where (λ r monitor. same_name monitor.owner.node peer)
 
 pub data Record : Type 0 where
   OfLink : (process partner : Pid) → End → Record
-  OfWatch : Reference → Monitor → Record
+  OfWatch : Reference → Watch → Record
   OfRegistration : Reference → Record
 
 abbrev pub least_record : Name → Node → Option Record
@@ -70,7 +73,7 @@ sweep_end end p q work = if is_active end then link_exit p q noconnection (set_e
 abbrev pub sweep_record : Option Record → Work → Work
 sweep_record None work = work
 sweep_record (Some (OfLink p q end)) work = sweep_end end p q work
-sweep_record (Some (OfWatch r monitor)) work = put monitor.owner (down_term r monitor.target noconnection) (unwatch r work)
+sweep_record (Some (OfWatch r monitor)) work = put monitor.owner (down_term r (object monitor.target) noconnection) (unwatch r work)
 sweep_record (Some (OfRegistration r)) work = unregister r work
 
 -- ---- once no record is left the side is gone, and an attempt that waited for it goes on

@@ -17,7 +17,7 @@ use Rattle.erl_term.specs.Data.{Data}
 use Rattle.erl_term.specs.Order.{pid_cmp}
 use Rattle.erl_term.specs.declared.term.Pid.{Pid}
 use Rattle.link_core.specs.declared.end.End.{End}
-use Rattle.monitor_core.specs.Monitors.{MonitorMap}
+use Rattle.monitor_core.specs.Monitors.{RegistrationMap, WatchMap}
 use Rattle.std.specs.FinMap.{FinMap}
 
 -- a process of the running incarnation. (Reference Manual, Processes)
@@ -38,8 +38,8 @@ pub record Node : Type 0 where
   -- by the process and its partner
   pub ends : FinMap pair_cmp End
   -- the monitors that its processes own, and those that others have of them
-  pub watches : MonitorMap
-  pub registered : MonitorMap
+  pub watches : WatchMap
+  pub registered : RegistrationMap
   pub sides : FinMap trunk_cmp TrunkSide
   -- what travels from the node to itself
   pub local : List Item

@@ -9,6 +9,8 @@ ghost use Rattle.std.specs.FinMap as fm;
 ghost use Rattle.erl_term.specs.declared.term.Pid.{Pid};
 ghost use Rattle.erl_term.specs.declared.term.Reference.{Reference};
 ghost use Rattle.exit_core.specs.Messages.{down_term};
+ghost use Rattle.dist_model.specs.Telling.{object};
+ghost use Rattle.monitor_core.specs.declared.monitor.Target.{Target};
 ghost use Rattle.dist_model.specs.Downs.{Down, down_in, downs};
 ghost use Rattle.erl_term.specs.Data.{Data};
 ghost use Rattle.erl_term.specs.declared.refusal.Refusal.{Refusal};
@@ -291,7 +293,7 @@ pub fn exit_comes()
 pub fn monitor_tells()
     ensures down { (cookie : List ℕ) (own other : ℕ) (reason : Data) → fits reason ≡ true →
         downs schedule.reference (history (schedule.monitored_to_the_end own other reason) (schedule.two_nodes cookie)) ≡
-        (record { owner = schedule.here; target = schedule.there; info = reason }) ∷ [] }
+        (record { owner = schedule.here; target = Target.Pid schedule.there; info = reason }) ∷ [] }
 {}
 
 /// Shows a restart: a node stops, starts, spawns a process, and is dialed again. A monitor of the
@@ -299,7 +301,7 @@ pub fn monitor_tells()
 pub fn restart_tells()
     ensures down { (cookie : List ℕ) (own other : ℕ) →
         downs schedule.reference (history (schedule.monitored_after_a_restart own other) (schedule.two_nodes cookie)) ≡
-        (record { owner = schedule.here; target = schedule.there; info = noproc }) ∷ [] }
+        (record { owner = schedule.here; target = Target.Pid schedule.there; info = noproc }) ∷ [] }
 {}
 
 /// Shows a late EXIT: a process takes its link back, and its partner ends before it hears of it.
@@ -358,10 +360,10 @@ pub fn dial_waits()
 /// Proves that a DOWN message yields its owner, target and reason, and that only such a message
 /// does. (Reference Manual, Processes, Monitors.)
 pub fn downs_are_told()
-    ensures told { (r : Reference) (owner target : Pid) (info : Data) →
-        down_in r owner (down_term r target info) ≡ (record { owner = owner; target = target; info = info }) ∷ [] }
+    ensures told { (r : Reference) (owner : Pid) (target : Target) (info : Data) →
+        down_in r owner (down_term r (object target) info) ≡ (record { owner = owner; target = target; info = info }) ∷ [] }
     ensures read { (r : Reference) (owner : Pid) (message : Data) (down : Down) (more : List Down) → down_in r owner message ≡ down ∷ more →
-        (down.owner ≡ owner) × (message ≡ down_term r down.target down.info) }
+        (down.owner ≡ owner) × (message ≡ down_term r (object down.target) down.info) }
 {}
 
 /// Proves that a beginning of a run is a run: between any two of its events lies a world, to which

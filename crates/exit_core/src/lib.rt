@@ -15,6 +15,6 @@ mod reaction;
 
 pub use laws::{only_active_links, ways_to_end};
 pub use mailbox::Mailbox;
-pub use messages::{down_message, exit_message, named};
+pub use messages::{down_message, exit_message, named, named_down_message};
 pub use process::Proc;
 pub use reaction::{ExitSignal, Reaction};

@@ -1,8 +1,7 @@
 -- A walk over the entries that pass, each behind the one before.
-use Rattle.std.proofs.Common.{◌≡◌, ◌<◌, ◌≤◌, ◌+◌, ℕ, suc, Bool, true, false, cond, not, ◌&&◌, T, List, [], ◌∷◌, ◌++◌, length, filter}
+use Rattle.std.proofs.Common.{◌≡◌, ◌<◌, ◌≤◌, ℕ, Bool, true, false, cond, not, ◌&&◌, T, List, [], ◌∷◌, ◌++◌, length, filter}
 use Rattle.std.proofs.Common.{Option, None, Some, refl, sym, ap, subst, ◌∙◌, arith}
-use Rattle.std.specs.declared.cmp.Ordering.{Ordering}
-use Rattle.std.specs.declared.cmp.Ordering.TheVariants.{Less, Equal, Greater}
+use Rattle.std.specs.declared.cmp.Ordering.TheVariants.{Less}
 use Rattle.std.specs.Ordering.{is_lt, ordering_reverse}
 use Rattle.std.proofs.lemmas.Cmp.{tied_itself}
 use Rattle.std.specs.FinMap.{is_sorted}
@@ -14,20 +13,19 @@ use Rattle.sorted_map.specs.First.{first_held, first_passes}
 use Rattle.erl_term.specs.declared.term.Reference.{Reference}
 use Rattle.erl_term.specs.Order.{reference_cmp}
 use Rattle.erl_term.proofs.Order.{reference_cmp_total, reference_cmp_exact}
-use Rattle.monitor_core.specs.declared.monitor.Monitor.{Monitor}
 use Rattle.monitor_core.specs.Slots.{Entry}
 use Rattle.monitor_core.specs.Sought.{is_behind}
 use Rattle.monitor_core.proofs.Present.{below_find}
 use Rattle.monitor_core.proofs.Ranks.{still_behind}
 
 -- the next one that passes, those up to a reference that pass, and how many are behind it
-abbrev pub next : (Monitor → Bool) → Option Reference → List Entry → Option Entry
+abbrev pub next : {M : Type 0} → (M → Bool) → Option Reference → List (Entry M) → Option (Entry M)
 next passes behind entries = first_where (λ reference monitor. is_behind behind reference && passes monitor) entries
 
-abbrev pub walked : (Monitor → Bool) → Option Reference → List Entry → List Entry
+abbrev pub walked : {M : Type 0} → (M → Bool) → Option Reference → List (Entry M) → List (Entry M)
 walked passes behind entries = filter (λ entry. not (is_behind behind entry.0) && passes entry.1) entries
 
-abbrev pub ahead : Option Reference → List Entry → ℕ
+abbrev pub ahead : {M : Type 0} → Option Reference → List (Entry M) → ℕ
 ahead behind entries = length (filter (λ entry. is_behind behind entry.0) entries)
 
 both : (a b : Bool) → a && b ≡ true → (a ≡ true) × (b ≡ true)
@@ -40,15 +38,15 @@ one a b h = cc
 not_itself : (r : Reference) → is_behind (Some r) r ≡ false
 not_itself r = ap is_lt (tied_itself reference_cmp_total r)
 
-module _ (passes : Monitor → Bool) where
-  abbrev test : Option Reference → Reference → Monitor → Bool
+module _ {M : Type 0} (passes : M → Bool) where
+  abbrev test : Option Reference → Reference → M → Bool
   test behind reference monitor = is_behind behind reference && passes monitor
 
-  pub walked_none : (entries : List Entry) → walked passes None entries ≡ []
+  pub walked_none : (entries : List (Entry M)) → walked passes None entries ≡ []
   walked_none [] = refl
   walked_none (x ∷ rest) = walked_none rest
 
-  walked_above : (behind : Option Reference) (r : Reference) (entries : List Entry)
+  walked_above : (behind : Option Reference) (r : Reference) (entries : List (Entry M))
       → ((s : Reference) → reference_cmp r s ≡ Less → is_behind behind s ≡ true) → T (below_all reference_cmp r entries)
       → walked passes behind entries ≡ []
   walked_above behind r [] f b = refl
@@ -58,7 +56,7 @@ module _ (passes : Monitor → Bool) where
       ∙ walked_above behind r rest f t.1
 
   -- the next one is the next that is walked
-  pub walked_more : (behind : Option Reference) (entries : List Entry) (e : Entry) → T (is_sorted reference_cmp entries)
+  pub walked_more : (behind : Option Reference) (entries : List (Entry M)) (e : Entry M) → T (is_sorted reference_cmp entries)
       → next passes behind entries ≡ Some e → walked passes (Some e.0) entries ≡ walked passes behind entries ++ e ∷ []
   walked_more behind [] e s h = cc
   walked_more behind (x ∷ rest) e s h =
@@ -76,7 +74,7 @@ module _ (passes : Monitor → Bool) where
           ap (λ c. cond (not c && true) (x ∷ walked passes (Some x.0) rest) (walked passes (Some x.0) rest)) (not_itself x.0)
           ∙ ap (λ l. x ∷ l) (walked_above (Some x.0) x.0 rest (λ s l. ap is_lt l) b)
           ∙ sym (ap (λ l. l ++ x ∷ []) (walked_above behind x.0 rest (λ s l. still_behind behind x.0 s l u) b)) in
-          subst (λ (z : Entry). cond (not (is_behind (Some z.0) x.0) && true) (x ∷ walked passes (Some z.0) rest) (walked passes (Some z.0) rest)
+          subst (λ (z : Entry M). cond (not (is_behind (Some z.0) x.0) && true) (x ∷ walked passes (Some z.0) rest) (walked passes (Some z.0) rest)
           ≡ walked passes behind rest ++ z ∷ []) (one x e k) here
       go b r true u false v k more = drop_both (is_behind (Some e.0) x.0) (more k)
         where
@@ -97,7 +95,7 @@ module _ (passes : Monitor → Bool) where
           keep false m = m
 
   -- where there is none, all that pass are walked
-  pub walked_all : (behind : Option Reference) (entries : List Entry) → next passes behind entries ≡ None
+  pub walked_all : (behind : Option Reference) (entries : List (Entry M)) → next passes behind entries ≡ None
       → walked passes behind entries ≡ filter (λ entry. passes entry.1) entries
   walked_all behind [] h = refl
   walked_all behind (x ∷ rest) h = go (is_behind behind x.0) (passes x.1) h (walked_all behind rest)
@@ -111,7 +109,7 @@ module _ (passes : Monitor → Bool) where
       go false true k more = ap (λ l. x ∷ l) (more k)
       go false false k more = more k
 
-  no_more : (behind : Option Reference) (r : Reference) (entries : List Entry) → is_behind behind r ≡ true
+  no_more : (behind : Option Reference) (r : Reference) (entries : List (Entry M)) → is_behind behind r ≡ true
       → ahead (Some r) entries ≤ ahead behind entries
   no_more behind r [] u = omega arith
   no_more behind r (x ∷ rest) u =
@@ -127,7 +125,7 @@ module _ (passes : Monitor → Bool) where
       go false v false w more = more
 
   -- and fewer are behind it
-  pub fewer_ahead : (behind : Option Reference) (entries : List Entry) (e : Entry) → next passes behind entries ≡ Some e
+  pub fewer_ahead : (behind : Option Reference) (entries : List (Entry M)) (e : Entry M) → next passes behind entries ≡ Some e
       → ahead (Some e.0) entries < ahead behind entries
   fewer_ahead behind [] e h = cc
   fewer_ahead behind (x ∷ rest) e h =
@@ -144,7 +142,7 @@ module _ (passes : Monitor → Bool) where
           < length (cond p (x ∷ filter (λ entry. is_behind behind entry.0) rest) (filter (λ entry. is_behind behind entry.0) rest))
       go u true v true w true y k most more =
           let i = one x e k in
-          let c : true ≡ false = sym y ∙ ap (λ (z : Entry). is_behind (Some e.0) z.0) i ∙ not_itself e.0 in cc
+          let c : true ≡ false = sym y ∙ ap (λ (z : Entry M). is_behind (Some e.0) z.0) i ∙ not_itself e.0 in cc
       go u true v true w false y k most more = omega (arith, most)
       go u true v false w true y k most more = omega (arith, more k)
       go u true v false w false y k most more = omega (arith, more k)

@@ -5,53 +5,53 @@ use Rattle.std.specs.declared.cmp.Ordering.TheVariants.{Less, Equal}
 use Rattle.std.specs.Ordering.{nat_cmp, ordering_then, is_lt, is_eq}
 use Rattle.std.specs.Cmp.Lexicographic.{slice_cmp}
 use Rattle.erl_term.specs.Order.{pid_cmp, reference_cmp}
+use Rattle.erl_term.specs.declared.term.Pid.{Pid}
 use Rattle.erl_term.specs.declared.term.Reference.{Reference}
-use Rattle.monitor_core.specs.declared.orders.Side.{Side}
 use Rattle.monitor_core.specs.declared.orders.By.{By}
 use Rattle.monitor_core.specs.declared.orders.By.TheVariants.{References, Processes, Nodes}
 use Rattle.monitor_core.specs.declared.orders.Sought.{Sought}
 use Rattle.monitor_core.specs.declared.orders.Sought.TheVariants.{Named, OfProcess, OnNode}
 use Rattle.monitor_core.specs.Slots.{Entry, held_at}
-use Rattle.monitor_core.specs.Orders.{process_of, other_side}
 
 -- true if a reference is greater than the bound, or there is no bound
 abbrev pub is_behind : Option Reference → Reference → Bool
 is_behind None reference = true
 is_behind (Some bound) reference = is_lt (reference_cmp bound reference)
 
--- the order of an entry against those that are sought
-abbrev pub stand : Side → Sought → Entry → Ordering
-stand side (Named reference) entry = reference_cmp entry.0 reference.now
-stand side (OfProcess process) entry = pid_cmp (process_of side entry.1) process.now
-stand side (OnNode node) entry = slice_cmp nat_cmp (process_of (other_side side) entry.1).node node.now
-
 -- the order in which the entries that are sought lie beside one another
-abbrev pub by_of : Side → Sought → By
-by_of side (Named reference) = References
-by_of side (OfProcess process) = Processes side
-by_of side (OnNode node) = Nodes (other_side side)
+abbrev pub by_of : Sought → By
+by_of (Named reference) = References
+by_of (OfProcess process) = Processes
+by_of (OnNode node) = Nodes
 
-abbrev pub meets : Side → Sought → Option Reference → Entry → Bool
-meets side sought behind entry = is_behind behind entry.0 && is_eq (stand side sought entry)
+module _ {M : Type 0} (process_of : M → Pid) (node_of : M → List ℕ) where
+  -- the order of an entry against those that are sought
+  abbrev pub stand : Sought → Entry M → Ordering
+  stand (Named reference) entry = reference_cmp entry.0 reference.now
+  stand (OfProcess process) entry = pid_cmp (process_of entry.1) process.now
+  stand (OnNode node) entry = slice_cmp nat_cmp (node_of entry.1) node.now
 
--- the order of an entry, or of the entry in a slot, against the first that is sought behind a reference
-abbrev pub entry_place : Side → Sought → Option Reference → Option Entry → Ordering
-entry_place side sought behind None = Less
-entry_place side sought behind (Some entry) =
-    ordering_then (stand side sought entry) (if is_behind behind entry.0 then Equal else Less)
+  abbrev pub meets : Sought → Option Reference → Entry M → Bool
+  meets sought behind entry = is_behind behind entry.0 && is_eq (stand sought entry)
 
-abbrev pub slot_place : Side → Sought → Option Reference → List (Option Entry) → ℕ → Ordering
-slot_place side sought behind slots slot = entry_place side sought behind (held_at slots slot)
+  -- the order of an entry, or of the entry in a slot, against the first that is sought behind a reference
+  abbrev pub entry_place : Sought → Option Reference → Option (Entry M) → Ordering
+  entry_place sought behind None = Less
+  entry_place sought behind (Some entry) =
+      ordering_then (stand sought entry) (if is_behind behind entry.0 then Equal else Less)
+
+  abbrev pub slot_place : Sought → Option Reference → List (Option (Entry M)) → ℕ → Ordering
+  slot_place sought behind slots slot = entry_place sought behind (held_at slots slot)
 
 -- of the entries that pass, this slot holds the one of the least reference
-pub record IsLeastAt (passes : Entry → Bool) (slots : List (Option Entry)) (found : ℕ) : Type 0 where
-  pub entry : Entry
+pub record IsLeastAt {M : Type 0} (passes : Entry M → Bool) (slots : List (Option (Entry M))) (found : ℕ) : Type 0 where
+  pub entry : Entry M
   pub held : held_at slots found ≡ Some entry
   pub passing : passes entry ≡ true
-  pub least : (slot : ℕ) (other : Entry) → held_at slots slot ≡ Some other → passes other ≡ true
+  pub least : (slot : ℕ) (other : Entry M) → held_at slots slot ≡ Some other → passes other ≡ true
       → reference_cmp other.0 entry.0 ≢ Less
 
 -- the slot of the least reference, or none if no entry passes
-abbrev pub IsNext : (Entry → Bool) → List (Option Entry) → Option ℕ → Type 0
-IsNext passes slots None = (slot : ℕ) (entry : Entry) → held_at slots slot ≡ Some entry → passes entry ≡ false
+abbrev pub IsNext : {M : Type 0} → (Entry M → Bool) → List (Option (Entry M)) → Option ℕ → Type 0
+IsNext {M} passes slots None = (slot : ℕ) (entry : Entry M) → held_at slots slot ≡ Some entry → passes entry ≡ false
 IsNext passes slots (Some found) = IsLeastAt passes slots found

@@ -3,34 +3,33 @@ ghost use Rattle.std.specs.Prelude.{◌≡◌, ◌≤◌, ◌+◌, IsSome, OnOk,
 ghost use Rattle.std.specs.Option.{option_copied};
 ghost use Rattle.monitor_core.specs.Slots.{held_at, Becomes};
 
-use crate::monitor::Monitor;
 use erl_term::Reference;
 use std::alloc::{AllocError, Global};
 use std::marker::Model;
 use std::mem;
 
-// So many slots have numbers.
+// The number of slots that have numbers.
 const SLOTS: usize = 1 << 32;
 
-/// Entries in slots. An entry stays in its slot until it is taken out, and then another one may come there.
-/// Contracts see each slot's entry or nothing, and how many more entries may come without memory.
+/// Entries in slots. An entry stays in its slot until it is removed. Then another one may get the slot.
+/// Contracts see the entry of each slot, if it has one, and the room: the number of entries that it can
+/// still insert without memory.
 #[derive(Drop)]
-pub(crate) struct Slots {
-    held: Vec<Option<(Reference, Monitor)>>,
-    // The slots that are empty. Its capacity is enough for all slots.
+pub(crate) struct Slots<M> {
+    held: Vec<Option<(Reference, M)>>,
+    // The empty slots. The capacity is enough for all slots.
     free: Vec<u32>,
 }
 
-impl Model for Slots {
+impl<M> Model for Slots<M> {
     ghost use Rattle.std.specs.Prelude.{min, ◌+◌, ◌-◌, ◌^◌};
     ghost use Rattle.std.specs.Vec.{vec_len, vec_capacity};
     ghost use Rattle.monitor_core.specs.Slots.{AreKept, Slotted, slotted_code};
     ghost use Rattle.erl_term.specs.contracts.term.Reference as reference;
-    ghost use Rattle.monitor_core.specs.contracts.monitor.Monitor as monitor;
 
-    ghost Value = { Slotted };
+    ghost Value = { Slotted M };
 
-    ghost coded = { slotted_code reference.the_row.coded monitor.the_row.coded };
+    ghost coded = { slotted_code reference.the_row.coded M.code };
 
     ghost view = { λ a. record {
       slots = a.held.items;
@@ -40,9 +39,9 @@ impl Model for Slots {
     ghost invariant = { λ a. AreKept a.held.items a.free.items (vec_capacity a.free) };
 }
 
-impl Slots {
-    /// Returns no slots. Takes no memory.
-    pub(crate) fn new(alloc: Global) -> Slots
+impl<M: Drop> Slots<M> {
+    /// Returns no slots. Never allocates.
+    pub(crate) fn new(alloc: Global) -> Slots<M>
         ensures { result.slots ≡ [] }
     {
         Slots {
@@ -51,8 +50,8 @@ impl Slots {
         }
     }
 
-    /// Returns the entry of a slot, if it holds one. Takes no memory.
-    pub(crate) fn get(&self, slot: u32) -> Option<&(Reference, Monitor)>
+    /// Returns the entry of `slot`, if it holds one. Never allocates.
+    pub(crate) fn get(&self, slot: u32) -> Option<&(Reference, M)>
         ensures { option_copied result ≡ held_at self.now.slots slot }
     {
         match self.held.get(slot as usize) {
@@ -61,10 +60,10 @@ impl Slots {
         }
     }
 
-    /// Reserves room for so many more entries.
+    /// Reserves memory for `additional` further entries.
     ///
     /// # Errors
-    /// Where there is no memory for it, or no number. Then no entry has changed.
+    /// If memory runs out, or the entries would be more than 2^32. On error no entry changes.
     pub(crate) fn reserve(&mut self, additional: usize) -> Result<(), AllocError>
         ensures slots { self.new.slots ≡ self.old.slots }
         ensures room { OnOk result (additional ≤ self.new.room) }
@@ -80,8 +79,8 @@ impl Slots {
         self.free.reserve(all.saturating_sub(self.free.len()))
     }
 
-    /// Puts an entry into an empty slot, and returns the slot. Takes no memory.
-    pub(crate) fn put(&mut self, reference: Reference, monitor: Monitor) -> u32
+    /// Inserts an entry into an empty slot, and returns the slot. Never allocates.
+    pub(crate) fn put(&mut self, reference: Reference, monitor: M) -> u32
         requires { 1 ≤ self.old.room }
         ensures empty { held_at self.old.slots result ≡ None }
         ensures slots { Becomes self.old.slots self.new.slots result (Some (reference, monitor)) }
@@ -101,7 +100,7 @@ impl Slots {
         }
     }
 
-    /// Takes the entry of a slot out. Takes no memory.
+    /// Removes the entry of `slot`. Never allocates.
     pub(crate) fn take(&mut self, slot: u32)
         requires { IsSome (held_at self.old.slots slot) }
         ensures slots { Becomes self.old.slots self.new.slots slot None }

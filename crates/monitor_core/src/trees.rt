@@ -5,7 +5,8 @@ ghost use Rattle.monitor_core.specs.Slots.{IsAlone, held_at, holds, holds_but};
 ghost use Rattle.monitor_core.specs.Sought.{IsNext, meets};
 ghost use Rattle.monitor_core.specs.Trees.{AreTrees, HaveRoom, IsTree, tree_of};
 
-use crate::orders::{By, Side, Sought};
+use crate::kept::Kept;
+use crate::orders::{By, Sought};
 use crate::slots::Slots;
 use erl_term::Reference;
 use sorted_map::IndexTree;
@@ -16,31 +17,31 @@ use std::alloc::{AllocError, Global};
 pub(crate) struct Trees {
     /// By the reference.
     pub(crate) by_reference: IndexTree,
-    /// By the process that a table is found by.
+    /// By the process by which an entry is found.
     pub(crate) by_process: IndexTree,
-    /// By the name of the other process's node.
+    /// By the name of the node by which an entry is found.
     pub(crate) by_node: IndexTree,
 }
 
 impl By {
-    // Puts a slot, which holds an entry now, among the others in this order.
-    fn insert(self, tree: &mut IndexTree, slots: &Slots, slot: u32)
+    // Inserts `slot`, which holds an entry now, among the others in this order.
+    fn insert<M: Kept>(self, tree: &mut IndexTree, slots: &Slots<M>, slot: u32)
         requires room { 1 ≤ tree.old.room }
         requires alone { IsAlone slots.now.slots }
         requires held { IsSome (held_at slots.now.slots slot) }
-        requires tree { IsTree self slots.now.slots (holds_but slots.now.slots slot) tree.old.slots }
-        ensures tree { IsTree self slots.now.slots (holds slots.now.slots) tree.new.slots }
+        requires tree { IsTree M.process_of M.node_of self slots.now.slots (holds_but slots.now.slots slot) tree.old.slots }
+        ensures tree { IsTree M.process_of M.node_of self slots.now.slots (holds slots.now.slots) tree.new.slots }
         ensures room { tree.old.room ≤ tree.new.room + 1 }
     {
         tree.insert(slot, |other| self.order(slots, other, slot));
     }
 
-    // Takes a slot, which holds its entry still, from the others.
-    fn remove(self, tree: &mut IndexTree, slots: &Slots, slot: u32)
+    // Removes `slot`, which still holds its entry, from the others.
+    fn remove<M: Kept>(self, tree: &mut IndexTree, slots: &Slots<M>, slot: u32)
         requires alone { IsAlone slots.now.slots }
         requires held { IsSome (held_at slots.now.slots slot) }
-        requires tree { IsTree self slots.now.slots (holds slots.now.slots) tree.old.slots }
-        ensures tree { IsTree self slots.now.slots (holds_but slots.now.slots slot) tree.new.slots }
+        requires tree { IsTree M.process_of M.node_of self slots.now.slots (holds slots.now.slots) tree.old.slots }
+        ensures tree { IsTree M.process_of M.node_of self slots.now.slots (holds_but slots.now.slots slot) tree.new.slots }
         ensures room { tree.old.room ≤ tree.new.room }
     {
         tree.remove(|other| self.order(slots, other, slot));
@@ -48,7 +49,7 @@ impl By {
 }
 
 impl Trees {
-    /// Returns no slots. Takes no memory.
+    /// Returns no slots. Never allocates.
     pub(crate) fn new(alloc: Global) -> Trees
         ensures references { result.by_reference.slots ≡ [] }
         ensures processes { result.by_process.slots ≡ [] }
@@ -61,10 +62,10 @@ impl Trees {
         }
     }
 
-    /// Reserves room for so many more slots.
+    /// Reserves memory for `additional` further slots.
     ///
     /// # Errors
-    /// Where there is no memory for it. Then no slot has changed.
+    /// If memory runs out. On error no slot changes.
     pub(crate) fn reserve(&mut self, additional: usize) -> Result<(), AllocError>
         ensures references { self.new.by_reference.slots ≡ self.old.by_reference.slots }
         ensures processes { self.new.by_process.slots ≡ self.old.by_process.slots }
@@ -77,34 +78,34 @@ impl Trees {
         self.by_node.reserve(additional)
     }
 
-    /// Puts a slot, which holds an entry now, among the others.
-    pub(crate) fn insert(&mut self, side: Side, slots: &Slots, slot: u32)
+    /// Inserts `slot`, which holds an entry now, among the others.
+    pub(crate) fn insert<M: Kept>(&mut self, slots: &Slots<M>, slot: u32)
         requires room { HaveRoom 1 self.old }
         requires alone { IsAlone slots.now.slots }
         requires held { IsSome (held_at slots.now.slots slot) }
-        requires others { AreTrees side slots.now.slots (holds_but slots.now.slots slot) self.old }
-        ensures all { AreTrees side slots.now.slots (holds slots.now.slots) self.new }
+        requires others { AreTrees M.process_of M.node_of slots.now.slots (holds_but slots.now.slots slot) self.old }
+        ensures all { AreTrees M.process_of M.node_of slots.now.slots (holds slots.now.slots) self.new }
         ensures room { (room : ℕ) → HaveRoom room self.old → HaveRoom (room - 1) self.new }
     {
         By::References.insert(&mut self.by_reference, slots, slot);
-        By::Processes(side).insert(&mut self.by_process, slots, slot);
-        By::Nodes(side.other()).insert(&mut self.by_node, slots, slot);
+        By::Processes.insert(&mut self.by_process, slots, slot);
+        By::Nodes.insert(&mut self.by_node, slots, slot);
     }
 
-    /// Takes a slot, which holds its entry still, from the others.
-    pub(crate) fn remove(&mut self, side: Side, slots: &Slots, slot: u32)
+    /// Removes `slot`, which still holds its entry, from the others.
+    pub(crate) fn remove<M: Kept>(&mut self, slots: &Slots<M>, slot: u32)
         requires alone { IsAlone slots.now.slots }
         requires held { IsSome (held_at slots.now.slots slot) }
-        requires all { AreTrees side slots.now.slots (holds slots.now.slots) self.old }
-        ensures others { AreTrees side slots.now.slots (holds_but slots.now.slots slot) self.new }
+        requires all { AreTrees M.process_of M.node_of slots.now.slots (holds slots.now.slots) self.old }
+        ensures others { AreTrees M.process_of M.node_of slots.now.slots (holds_but slots.now.slots slot) self.new }
         ensures room { (room : ℕ) → HaveRoom room self.old → HaveRoom room self.new }
     {
         By::References.remove(&mut self.by_reference, slots, slot);
-        By::Processes(side).remove(&mut self.by_process, slots, slot);
-        By::Nodes(side.other()).remove(&mut self.by_node, slots, slot);
+        By::Processes.remove(&mut self.by_process, slots, slot);
+        By::Nodes.remove(&mut self.by_node, slots, slot);
     }
 
-    // Returns the slots in the order that those that are sought lie in.
+    // Returns the slots in the order in which the entries that are sought lie beside one another.
     fn tree(&self, sought: &Sought<'_>) -> &IndexTree
         ensures { result.now ≡ tree_of sought.now self.now }
     {
@@ -115,23 +116,22 @@ impl Trees {
         }
     }
 
-    /// Returns the slot of the entry that is sought, of the least reference behind the one that is given.
-    /// Takes no memory.
-    pub(crate) fn next(
+    /// Returns the slot of the least reference of the entries that are sought. If `behind` is a reference,
+    /// only greater ones count. Never allocates.
+    pub(crate) fn next<M: Kept>(
         &self,
-        side: Side,
-        slots: &Slots,
+        slots: &Slots<M>,
         sought: &Sought<'_>,
         behind: Option<&Reference>,
     ) -> Option<u32>
-        requires { AreTrees side slots.now.slots (holds slots.now.slots) self.now }
-        ensures { IsNext (meets side sought.now (option_copied behind.entry)) slots.now.slots result }
+        requires { AreTrees M.process_of M.node_of slots.now.slots (holds slots.now.slots) self.now }
+        ensures { IsNext (meets M.process_of M.node_of sought.now (option_copied behind.entry)) slots.now.slots result }
     {
         let found = self
             .tree(sought)
-            .first_not_less(|slot| sought.place(side, behind, slots, slot))?;
+            .first_not_less(|slot| sought.place(behind, slots, slot))?;
         let entry = slots.get(found)?;
-        let is_met = sought.is_met(side, behind, entry);
+        let is_met = sought.is_met(behind, entry);
         if is_met { Some(found) } else { None }
     }
 }

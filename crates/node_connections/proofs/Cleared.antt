@@ -14,9 +14,10 @@ use Rattle.erl_term.specs.declared.term.Pid.{Pid}
 use Rattle.erl_term.specs.declared.term.Reference.{Reference}
 use Rattle.link_core.specs.declared.end.End.{End}
 use Rattle.erl_term.proofs.Order.{reference_cmp_exact, reference_cmp_total}
-use Rattle.monitor_core.specs.Monitors.{MonitorMap}
+use Rattle.monitor_core.specs.Monitors.{RegistrationMap, WatchMap, target_node}
 use Rattle.erl_term.specs.Order.{reference_cmp}
-use Rattle.monitor_core.specs.declared.monitor.Monitor.{Monitor}
+use Rattle.monitor_core.specs.declared.monitor.Registration.{Registration}
+use Rattle.monitor_core.specs.declared.monitor.Watch.{Watch}
 use Rattle.node_plan.specs.Carried.{CarriesOut}
 use Rattle.node_plan.specs.Changed.{sides_after}
 use Rattle.node_plan.specs.Seen.{seen}
@@ -46,18 +47,18 @@ first_lives it peer id q e h =
 
 -- ---- no monitor before the first is towards the peer
 
-pub watched_from : (peer : Name) (m : MonitorMap) (r : Reference) (w : Monitor) → watch_to peer (fm.entries m) ≡ Some (r, w)
+pub watched_from : (peer : Name) (m : WatchMap) (r : Reference) (w : Watch) → watch_to peer (fm.entries m) ≡ Some (r, w)
     → NoneWatchedBefore peer (Some r) m
-watched_from peer m r w h other its g less = go (same_name its.target.node peer) refl
+watched_from peer m r w h other its g less = go (same_name (target_node its.target) peer) refl
   where
-    f : Found reference_cmp_total reference_cmp_exact (λ key value. same_name value.target.node peer) m r w
-    f = found reference_cmp_total reference_cmp_exact (λ key value. same_name value.target.node peer) m (r, w) h
+    f : Found reference_cmp_total reference_cmp_exact (λ key value. same_name (target_node value.target) peer) m r w
+    f = found reference_cmp_total reference_cmp_exact (λ key value. same_name (target_node value.target) peer) m (r, w) h
 
-    go : (b : Bool) → same_name its.target.node peer ≡ b → b ≡ false
+    go : (b : Bool) → same_name (target_node its.target) peer ≡ b → b ≡ false
     go false t = refl
     go true t = absurd (both_ways (is_lt (reference_cmp other r)) (f.least other its g t) (ap is_lt less))
 
-pub owned_from : (peer : Name) (m : MonitorMap) (r : Reference) (w : Monitor)
+pub owned_from : (peer : Name) (m : RegistrationMap) (r : Reference) (w : Registration)
     → registered_by peer (fm.entries m) ≡ Some (r, w) → NoneOwnedBefore peer (Some r) m
 owned_from peer m r w h other its g less = go (same_name its.owner.node peer) refl
   where
@@ -74,10 +75,10 @@ pub registered_from : (peer : Name) (m : Node) (r : Reference) → least_record 
 registered_from peer m r h =
     go (link_to peer (fm.entries m.ends)) (watch_to peer (fm.entries m.watches)) (registered_by peer (fm.entries m.registered)) refl h
   where
-    go : (l : Option ((Pid × Pid) × End)) (w k : Option (Reference × Monitor)) → registered_by peer (fm.entries m.registered) ≡ k
+    go : (l : Option ((Pid × Pid) × End)) (w : Option (Reference × Watch)) (k : Option (Reference × Registration)) → registered_by peer (fm.entries m.registered) ≡ k
         → option_or (option_map (λ (e : (Pid × Pid) × End). OfLink e.0.0 e.0.1 e.1) l) (option_or
-        (option_map (λ (e : Reference × Monitor). OfWatch e.0 e.1) w)
-        (option_map (λ (e : Reference × Monitor). OfRegistration e.0) k)) ≡ Some (OfRegistration r)
+        (option_map (λ (e : Reference × Watch). OfWatch e.0 e.1) w)
+        (option_map (λ (e : Reference × Registration). OfRegistration e.0) k)) ≡ Some (OfRegistration r)
         → NoneOwnedBefore peer (Some r) m.registered
     go None None (Some e) i h =
         let same : e.0 ≡ r = cc in subst (λ x. NoneOwnedBefore peer (Some x) m.registered) same (owned_from peer m.registered e.0 e.1 i)

@@ -17,9 +17,10 @@ use Rattle.erl_term.specs.declared.term.Pid.{Pid}
 use Rattle.erl_term.specs.declared.term.Reference.{Reference}
 use Rattle.erl_term.specs.Order.{reference_cmp}
 use Rattle.erl_term.proofs.Order.{reference_cmp_exact, reference_cmp_total}
-use Rattle.monitor_core.specs.Left.{is_owned, is_target, without_owner, without_target}
-use Rattle.monitor_core.specs.Monitors.{MonitorMap}
-use Rattle.monitor_core.specs.declared.monitor.Monitor.{Monitor}
+use Rattle.monitor_core.specs.Left.{is_bound, is_owned, without_held, without_owner}
+use Rattle.monitor_core.specs.Monitors.{MonitorMap, RegistrationMap, WatchMap}
+use Rattle.monitor_core.specs.declared.monitor.Registration.{Registration}
+use Rattle.monitor_core.specs.declared.monitor.Watch.{Watch}
 use Rattle.monitor_core.proofs.Walks.{next}
 use Rattle.sorted_map.proofs.Orderings.{turned}
 use Rattle.sorted_map.specs.Entries.{first_where}
@@ -74,7 +75,7 @@ any_first passes f (e ∷ es) g = go (passes e.0 e.1) (g 0 e (omega arith)) (any
 
 -- ---- of monitors
 
-module _ (m : MonitorMap) (passes : Reference → Monitor → Bool) (f : Reference × Monitor → Bool) where
+module _ {M : Type 0} (m : MonitorMap M) (passes : Reference → M → Bool) (f : Reference × M → Bool) where
   left : (keep : Reference → Bool) → All (λ e. f e ≡ (passes e.0 e.1 && keep e.0)) (fm.entries m)
       → list_any f (fm.entries m) ≡ is_some (first_where passes (fm.entries (fm.retain_keys m keep)))
   left keep g =
@@ -82,25 +83,27 @@ module _ (m : MonitorMap) (passes : Reference → Monitor → Bool) (f : Referen
       ∙ sym (ap (λ es. is_some (first_where passes es)) (entries_kept reference_cmp_total reference_cmp_exact m keep))
 
   -- but that of a reference
-  pub left_but : (gone : Reference) → ((e : Reference × Monitor) → f e ≡ (passes e.0 e.1 && not (same_reference e.0 gone)))
+  pub left_but : (gone : Reference) → ((e : Reference × M) → f e ≡ (passes e.0 e.1 && not (same_reference e.0 gone)))
       → list_any f (fm.entries m) ≡ is_some (first_where passes (fm.entries (fm.remove m gone)))
   left_but gone g =
       left (λ x. not (same_reference x gone)) (λ k d a. g (get_or (fm.entries m) k d))
       ∙ sym (ap (λ n. is_some (first_where passes (fm.entries n))) (removed_is reference_cmp_total reference_cmp_exact m gone))
 
-  -- but those that a process owns
-  pub left_by_owner : (p : Pid) → ((e : Reference × Monitor) → f e ≡ (passes e.0 e.1 && not (same_pid e.1.owner p)))
-      → list_any f (fm.entries m) ≡ is_some (first_where passes (fm.entries (without_owner m p)))
-  left_by_owner p g = left (λ r. not (is_owned p (fm.get m r))) (λ k d a.
-      let e = get_or (fm.entries m) k d in
-      g e ∙ ap (λ o. passes e.0 e.1 && not (is_owned p o)) (sym (each_entry m k d a)))
+-- but those that a process owns
+pub left_by_owner : (m : WatchMap) (passes : Reference → Watch → Bool) (f : Reference × Watch → Bool) (p : Pid)
+    → ((e : Reference × Watch) → f e ≡ (passes e.0 e.1 && not (same_pid e.1.owner p)))
+    → list_any f (fm.entries m) ≡ is_some (first_where passes (fm.entries (without_owner m p)))
+left_by_owner m passes f p g = left m passes f (λ r. not (is_owned p (fm.get m r))) (λ k d a.
+    let e = get_or (fm.entries m) k d in
+    g e ∙ ap (λ o. passes e.0 e.1 && not (is_owned p o)) (sym (each_entry m k d a)))
 
-  -- but those of a process
-  pub left_by_target : (p : Pid) → ((e : Reference × Monitor) → f e ≡ (passes e.0 e.1 && not (same_pid e.1.target p)))
-      → list_any f (fm.entries m) ≡ is_some (first_where passes (fm.entries (without_target m p)))
-  left_by_target p g = left (λ r. not (is_target p (fm.get m r))) (λ k d a.
-      let e = get_or (fm.entries m) k d in
-      g e ∙ ap (λ o. passes e.0 e.1 && not (is_target p o)) (sym (each_entry m k d a)))
+-- but those that are bound to a process
+pub left_by_held : (m : RegistrationMap) (passes : Reference → Registration → Bool) (f : Reference × Registration → Bool) (p : Pid)
+    → ((e : Reference × Registration) → f e ≡ (passes e.0 e.1 && not (same_pid e.1.held p)))
+    → list_any f (fm.entries m) ≡ is_some (first_where passes (fm.entries (without_held m p)))
+left_by_held m passes f p g = left m passes f (λ r. not (is_bound p (fm.get m r))) (λ k d a.
+    let e = get_or (fm.entries m) k d in
+    g e ∙ ap (λ o. passes e.0 e.1 && not (is_bound p o)) (sym (each_entry m k d a)))
 
 -- ---- behind the first, which goes
 
@@ -112,12 +115,12 @@ and_true : (b : Bool) → b && true ≡ b
 and_true true = refl
 and_true false = refl
 
-module _ (m n : MonitorMap) (same : m ≡ n) (passes : Monitor → Bool) (gone : Reference)
-    (none : (r : Reference) (w : Monitor) → fm.get n r ≡ Some w → reference_cmp r gone ≡ Less → passes w ≡ false) where
-  abbrev other : Reference × Monitor → Bool
+module _ {M : Type 0} (m n : MonitorMap M) (same : m ≡ n) (passes : M → Bool) (gone : Reference)
+    (none : (r : Reference) (w : M) → fm.get n r ≡ Some w → reference_cmp r gone ≡ Less → passes w ≡ false) where
+  abbrev other : Reference × M → Bool
   other e = passes e.1 && not (same_reference e.0 gone)
 
-  as_behind : (r : Reference) (w : Monitor) → fm.get n r ≡ Some w
+  as_behind : (r : Reference) (w : M) → fm.get n r ≡ Some w
       → (passes w && not (same_reference r gone)) ≡ (is_lt (reference_cmp gone r) && passes w)
   as_behind r w h = go (reference_cmp r gone) refl
     where
@@ -177,7 +180,7 @@ any_found {K} {V} passes f (x ∷ es) e h k = go (passes x.0 x.1) h (any_found p
     go false i more = ap (λ b. f x || b) (more i k) ∙ or_true (f x)
 
 -- the next one passes
-pub next_passes : (passes : Monitor → Bool) (behind : Option Reference) (es : List (Reference × Monitor)) (e : Reference × Monitor)
+pub next_passes : {M : Type 0} (passes : M → Bool) (behind : Option Reference) (es : List (Reference × M)) (e : Reference × M)
     → next passes behind es ≡ Some e → passes e.1 ≡ true
 next_passes passes behind es e h =
     second _ (passes e.1) (first_passes reference_cmp_total reference_cmp_exact _ es e h)

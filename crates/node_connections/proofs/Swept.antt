@@ -17,7 +17,8 @@ use Rattle.exit_core.specs.declared.reaction.Reaction.{Reaction}
 use Rattle.link_core.specs.News.{noconnection}
 use Rattle.link_core.specs.Table.{is_active}
 use Rattle.link_core.specs.declared.end.End.{End}
-use Rattle.monitor_core.specs.declared.monitor.Monitor.{Monitor}
+use Rattle.monitor_core.specs.declared.monitor.Registration.{Registration}
+use Rattle.monitor_core.specs.declared.monitor.Watch.{Watch}
 use Rattle.node_connections.specs.Records.{has_records, left_by_end}
 use Rattle.std.specs.Prelude.{List}
 
@@ -27,10 +28,10 @@ pub records_are : (peer : Name) (m : Node) → is_some (least_record peer m) ≡
 records_are peer m =
     go (link_to peer (fm.entries m.ends)) (watch_to peer (fm.entries m.watches)) (registered_by peer (fm.entries m.registered))
   where
-    go : (l : Option ((Pid × Pid) × End)) (w k : Option (Reference × Monitor))
+    go : (l : Option ((Pid × Pid) × End)) (w : Option (Reference × Watch)) (k : Option (Reference × Registration))
         → is_some (option_or (option_map (λ (e : (Pid × Pid) × End). OfLink e.0.0 e.0.1 e.1) l) (option_or
-        (option_map (λ (e : Reference × Monitor). OfWatch e.0 e.1) w)
-        (option_map (λ (e : Reference × Monitor). OfRegistration e.0) k)))
+        (option_map (λ (e : Reference × Watch). OfWatch e.0 e.1) w)
+        (option_map (λ (e : Reference × Registration). OfRegistration e.0) k)))
         ≡ (is_some l || (is_some w || is_some k))
     go None None (Some k) = refl
     go _ _ _ = refl

@@ -8,9 +8,10 @@ use Rattle.dist_model.specs.Node.{Node}
 use Rattle.erl_term.specs.declared.term.Pid.{Pid}
 use Rattle.erl_term.specs.declared.term.Reference.{Reference}
 use Rattle.link_core.specs.declared.end.End.{End}
-use Rattle.monitor_core.specs.Monitors.{MonitorMap}
+use Rattle.monitor_core.specs.Monitors.{RegistrationMap, WatchMap, target_node}
 use Rattle.erl_term.specs.Order.{reference_cmp}
-use Rattle.monitor_core.specs.declared.monitor.Monitor.{Monitor}
+use Rattle.monitor_core.specs.declared.monitor.Registration.{Registration}
+use Rattle.monitor_core.specs.declared.monitor.Watch.{Watch}
 use Rattle.node_connections.specs.declared.sweeping.Sweeping.{Sweeping}
 
 -- a reference that is less than the bound
@@ -23,14 +24,14 @@ abbrev pub NoneLinkedUpTo : Name → ℕ → FinMap pair_cmp End → Type 0
 NoneLinkedUpTo peer id ends = (p q : Pid) (e : End) → fm.get ends (p, q) ≡ Some e → p.id ≤ id → same_name q.node peer ≡ false
 
 -- no monitor under a lesser reference is of a process at the peer
-abbrev pub NoneWatchedBefore : Name → Option Reference → MonitorMap → Type 0
+abbrev pub NoneWatchedBefore : Name → Option Reference → WatchMap → Type 0
 NoneWatchedBefore peer bound monitors =
-    (r : Reference) (w : Monitor) → fm.get monitors r ≡ Some w → IsBefore r bound → same_name w.target.node peer ≡ false
+    (r : Reference) (w : Watch) → fm.get monitors r ≡ Some w → IsBefore r bound → same_name (target_node w.target) peer ≡ false
 
 -- and none is owned by one
-abbrev pub NoneOwnedBefore : Name → Option Reference → MonitorMap → Type 0
+abbrev pub NoneOwnedBefore : Name → Option Reference → RegistrationMap → Type 0
 NoneOwnedBefore peer bound monitors =
-    (r : Reference) (w : Monitor) → fm.get monitors r ≡ Some w → IsBefore r bound → same_name w.owner.node peer ≡ false
+    (r : Reference) (w : Registration) → fm.get monitors r ≡ Some w → IsBefore r bound → same_name w.owner.node peer ≡ false
 
 -- no link to the sweep's peer is left up to its id
 abbrev pub IsAhead : Sweeping → Node → Type 0

@@ -10,8 +10,8 @@ use Rattle.erl_names.specs.Ids.{pid_of}
 use Rattle.erl_names.specs.Minted.{Minted}
 use Rattle.erl_term.specs.declared.term.Pid.{Pid}
 use Rattle.link_core.specs.declared.end.End.{End}
-use Rattle.monitor_core.specs.Left.{without_owner, without_target}
-use Rattle.monitor_core.specs.Monitors.{MonitorMap}
+use Rattle.monitor_core.specs.Left.{without_held, without_owner}
+use Rattle.monitor_core.specs.Monitors.{RegistrationMap, WatchMap}
 use Rattle.node_tables.specs.declared.seeking.FoundLink.{FoundLink}
 use Rattle.node_connections.specs.declared.records.Record.{Record}
 use Rattle.node_connections.specs.declared.records.Record.TheVariants.{Link, Watch, Registration}
@@ -29,10 +29,10 @@ record_of m (Registration entry) = model.OfRegistration entry.now.0
 abbrev pub has_link : Name → FinMap pair_cmp End → Bool
 has_link peer ends = is_some (link_to peer (fm.entries ends))
 
-abbrev pub has_watch : Name → MonitorMap → Bool
+abbrev pub has_watch : Name → WatchMap → Bool
 has_watch peer monitors = is_some (watch_to peer (fm.entries monitors))
 
-abbrev pub has_registration : Name → MonitorMap → Bool
+abbrev pub has_registration : Name → RegistrationMap → Bool
 has_registration peer monitors = is_some (registered_by peer (fm.entries monitors))
 
 -- ---- the ends once a link is swept: a process that ends by it has none any more
@@ -53,7 +53,7 @@ abbrev pub left_by_end : Pid → Pid → Node → Node
 left_by_end p q node = record node {
   ends = parted p q node.ends;
   watches = without_owner node.watches p;
-  registered = without_target node.registered p;
+  registered = without_held node.registered p;
 }
 
 -- or goes on

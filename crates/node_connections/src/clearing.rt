@@ -23,7 +23,7 @@ use crate::taking::{take_link, take_registration, take_watch};
 use conn_core::Side;
 use dist_model::{Answer, Swept};
 use erl_term::Reference;
-use monitor_core::Monitor;
+use monitor_core::Watch;
 use node_plan::{Node, Plan};
 use node_tables::FoundLink;
 use std::alloc::{AllocError, Global};
@@ -79,7 +79,7 @@ pub(crate) fn clear_watch(
     node: &Node,
     plan: &mut Plan,
     side: &Side,
-    watch: &(Reference, Monitor),
+    watch: &(Reference, Watch),
 ) -> Result<(), AllocError>
     requires blank { IsBlank plan.old }
     requires carries { CarriesOut plan.old (seen node.now) (at_work (seen node.now)) }

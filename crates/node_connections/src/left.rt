@@ -3,7 +3,7 @@ ghost use Rattle.std.specs.Prelude.{◌≡◌, true, Some};
 ghost use Rattle.std.specs.FinMap as fm;
 ghost use Rattle.dist_model.specs.Losses.{link_to};
 ghost use Rattle.erl_names.specs.Ids.{pid_of};
-ghost use Rattle.monitor_core.specs.Left.{without_owner, without_target};
+ghost use Rattle.monitor_core.specs.Left.{without_held, without_owner};
 ghost use Rattle.node_plan.specs.Seen.{seen};
 ghost use Rattle.node_connections.specs.Ahead.{NoneOwnedBefore, NoneWatchedBefore};
 ghost use Rattle.node_connections.specs.Records.{has_link, has_registration, has_watch, link_entry, parted, unlinked};
@@ -49,8 +49,8 @@ pub(crate) fn has_watch_of_another(node: &Node, peer: &Atom, process: &Pid) -> b
 {
     let watches = node.watches();
     let mut behind: Option<&Reference> = None;
-    while let Some((reference, monitor)) = watches.next_towards(peer, behind) {
-        if !same_pid(&monitor.owner, process) {
+    while let Some((reference, watch)) = watches.next_towards(peer, behind) {
+        if !same_pid(&watch.owner, process) {
             return true;
         }
         behind = Some(reference);
@@ -69,12 +69,12 @@ pub(crate) fn has_another_watch(node: &Node, peer: &Atom, gone: &Reference) -> b
 // Returns true if a monitor that another has is left once a process ends. It goes over those of that
 // process alone, and one more.
 pub(crate) fn has_registration_of_another(node: &Node, peer: &Atom, process: &Pid) -> bool
-    ensures { result ≡ has_registration peer.now (without_target (seen node.now).registered process.now) }
+    ensures { result ≡ has_registration peer.now (without_held (seen node.now).registered process.now) }
 {
     let watchers = node.watchers();
     let mut behind: Option<&Reference> = None;
-    while let Some((reference, monitor)) = watchers.next_towards(peer, behind) {
-        if !same_pid(&monitor.target, process) {
+    while let Some((reference, registration)) = watchers.next_towards(peer, behind) {
+        if !same_pid(&registration.held, process) {
             return true;
         }
         behind = Some(reference);

@@ -10,7 +10,7 @@ ghost use Rattle.node_connections.specs.Records.{link_entry, record_of};
 use crate::monitors::{first_registration, first_watch};
 use crate::sweeping::Sweeping;
 use erl_term::{Atom, Reference};
-use monitor_core::Monitor;
+use monitor_core::{Registration, Watch};
 use node_plan::Node;
 use node_tables::FoundLink;
 
@@ -20,9 +20,9 @@ pub(crate) enum Record<'a> {
     /// A link of a process here to one there.
     Link(FoundLink<'a>),
     /// A monitor of a process here of one there.
-    Watch(&'a (Reference, Monitor)),
+    Watch(&'a (Reference, Watch)),
     /// A monitor of a process there of one here.
-    Registration(&'a (Reference, Monitor)),
+    Registration(&'a (Reference, Registration)),
 }
 
 // The first link towards a peer, of the processes behind this one.

@@ -27,7 +27,7 @@ use Rattle.erl_term.specs.declared.term.Pid.{Pid}
 use Rattle.erl_term.specs.declared.term.Reference.{Reference}
 use Rattle.link_core.specs.Table.{is_active}
 use Rattle.link_core.specs.declared.end.End.{End}
-use Rattle.monitor_core.specs.declared.monitor.Monitor.{Monitor}
+use Rattle.monitor_core.specs.declared.monitor.Watch.{Watch}
 use Rattle.node_history.specs.Acts.{is_act}
 use Rattle.node_history.specs.Spares.{AreLinksFor, AreLinksOf, Fills, message_for, message_of}
 use Rattle.node_history.specs.declared.spare.Spare.{Spare}
@@ -57,7 +57,7 @@ module _ (spare : Spare) where
   if_living b true e o is h = h is
   if_living b false e o is h = tt
 
-  watched : (monitor : Option Monitor) (p : Pid) (r : Reference) (work : Work) → Fills spare (demonitor_by monitor p r work)
+  watched : (monitor : Option Watch) (p : Pid) (r : Reference) (work : Work) → Fills spare (demonitor_by monitor p r work)
   watched None p r work = tt
   watched (Some monitor) p r work = only_if (same_pid monitor.owner p) Refusal.NotTheOwner _ refl
 

@@ -14,8 +14,8 @@ use Rattle.dist_model.proofs.Entries.{same_reference_true}
 use Rattle.dist_model.specs.Downs.{same_reference}
 use Rattle.erl_term.proofs.Order.{reference_cmp_exact, reference_cmp_total}
 use Rattle.monitor_core.specs.Left.{is_owned}
-use Rattle.monitor_core.specs.Monitors.{MonitorMap}
-use Rattle.monitor_core.specs.declared.monitor.Monitor.{Monitor}
+use Rattle.monitor_core.specs.Monitors.{WatchMap}
+use Rattle.monitor_core.specs.declared.monitor.Watch.{Watch}
 use Rattle.node_plan.specs.Suits.{IsNext}
 use Rattle.node_plan.specs.Fresh.{IsFresh}
 use Rattle.node_plan.specs.Keeps.{AreDrawn}
@@ -67,13 +67,13 @@ behind draws.Reference c m count l =
     let e = same_references c m in let k = risen-le (spawned_by c m).references (2 ^ 18 - 1) in omega (arith, e, k, l)
 
 -- nothing drawn later has a monitor
-left_none : (c : Change) (watches : MonitorMap) (r : Reference) → fm.get watches r ≡ None → fm.get (watches_left c watches) r ≡ None
+left_none : (c : Change) (watches : WatchMap) (r : Reference) → fm.get watches r ≡ None → fm.get (watches_left c watches) r ≡ None
 left_none (change.Of p e (life.Ends reason)) watches r h =
     fm.get-retain_keys watches (λ k. not (is_owned p (fm.get watches k))) r
     (λ k t. ap (λ x. not (is_owned p (fm.get watches x))) (sym (reference_cmp_exact r k t)))
     ∙ ap (λ o. cond (not (is_owned p (fm.get watches r))) o None) h ∙ go (not (is_owned p (fm.get watches r)))
   where
-    go : (b : Bool) → ◌≡◌ {A = Option Monitor} (cond b None None) None
+    go : (b : Bool) → ◌≡◌ {A = Option Watch} (cond b None None) None
     go true = refl
     go false = refl
 left_none c watches r h = h
@@ -85,7 +85,7 @@ word_of r = head_of r.words
     head_of [] = 0
     head_of (x ∷ xs) = x
 
-watched_none : (own : MonitorChange) (d : Draws) (c : Change) (m : Minted) (watches : MonitorMap) → IsNext own d m
+watched_none : (own : MonitorChange Watch) (d : Draws) (c : Change) (m : Minted) (watches : WatchMap) → IsNext own d m
     → AreDrawn watches m → (count : ℕ)
     → (drawn_by d (spawned_by c m)).references < count → fm.get (watched own watches) (reference_of m count) ≡ None
 unfolding word_of
@@ -95,7 +95,7 @@ watched_none (monitor.Removes r) d c m watches n h count l =
     ∙ ap (cond (same_reference (reference_of m count) r) None) (h count (behind d c m count l))
     ∙ go (same_reference (reference_of m count) r)
   where
-    go : (b : Bool) → ◌≡◌ {A = Option Monitor} (cond b None None) None
+    go : (b : Bool) → ◌≡◌ {A = Option Watch} (cond b None None) None
     go true = refl
     go false = refl
 watched_none (monitor.Adds r owned) d c m watches n h count l =
@@ -120,7 +120,7 @@ watched_none (monitor.Adds r owned) d c m watches n h count l =
     other : same_reference (reference_of m count) r ≡ false
     other = differs (same_reference (reference_of m count) r) refl
 
-pub drawn_after : (own : MonitorChange) (d : Draws) (c : Change) (m : Minted) (watches : MonitorMap) → IsNext own d m → AreDrawn watches m
+pub drawn_after : (own : MonitorChange Watch) (d : Draws) (c : Change) (m : Minted) (watches : WatchMap) → IsNext own d m → AreDrawn watches m
     → AreDrawn (watches_left c (watched own watches)) (drawn_by d (spawned_by c m))
 drawn_after own d c m watches n h count l =
     let names = named_after c d m in
@@ -130,7 +130,7 @@ drawn_after own d c m watches n h count l =
     ∙ left_none c (watched own watches) (reference_of m count) (watched_none own d c m watches n h count l)
 
 -- so what comes is fresh
-pub fresh_next : (own : MonitorChange) (d : Draws) (m : Minted) (watches : MonitorMap) → IsNext own d m → AreDrawn watches m
+pub fresh_next : (own : MonitorChange Watch) (d : Draws) (m : Minted) (watches : WatchMap) → IsNext own d m → AreDrawn watches m
     → IsFresh own watches
 fresh_next monitor.Stays d m watches n h = tt
 fresh_next (monitor.Removes r) d m watches n h = tt

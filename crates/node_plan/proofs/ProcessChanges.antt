@@ -12,7 +12,7 @@ use Rattle.dist_model.specs.Work.{Work, delivered, put, set_end, set_in, set_lif
 use Rattle.dist_model.specs.declared.report.Effect.{Effect}
 use Rattle.erl_term.specs.Data.{Data}
 use Rattle.erl_term.specs.declared.term.Pid.{Pid}
-use Rattle.monitor_core.specs.Left.{without_owner, without_target}
+use Rattle.monitor_core.specs.Left.{without_held, without_owner}
 use Rattle.node_plan.specs.Changed.{drawn_by, end_after, ends_after, lives_after, registered}
 use Rattle.node_plan.specs.Changed.{spawned_by, watched, watchers_left, watches_left}
 use Rattle.node_plan.specs.Parts.{link_in}
@@ -106,7 +106,7 @@ module _ (plan : Plan) (m : Node) (work : Work) (p : Pid) (h : CarriesOut plan m
           lives = lives i;
           ends = without_ends (ends_is i) p;
           watches = without_owner (watches_is i) p;
-          registered = without_target (registered_is i) p;
+          registered = without_held (registered_is i) p;
         }))
     carries_bury reason (Err x) e c = tt
 

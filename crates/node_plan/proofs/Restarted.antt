@@ -23,15 +23,15 @@ steady_stopped m s =
       attempts = s.attempts;
       ends = s.ends;
       owners = s.owners;
-      targets = s.targets;
+      bound = s.bound;
     } in
     let t : Steady (stopped (running m)) = steady_kept [] (running m) event.Stop Answer.Stopped (at_work (stopped (running m))) runs refl in
-    record { engaged = t.engaged; attempts = t.attempts; ends = t.ends; owners = t.owners; targets = t.targets }
+    record { engaged = t.engaged; attempts = t.attempts; ends = t.ends; owners = t.owners; bound = t.bound }
 
 pub steady_started : (m : Node) → Steady m → Steady (started m)
 steady_started m s =
     let t = steady_stopped m s in
-    record { engaged = t.engaged; attempts = t.attempts; ends = t.ends; owners = t.owners; targets = t.targets }
+    record { engaged = t.engaged; attempts = t.attempts; ends = t.ends; owners = t.owners; bound = t.bound }
 
 comes_of_none : (m : Node) → ComesOfOthers m event.Stop
 comes_of_none m t c d = no_item t c.0 c.1 c.2

@@ -16,8 +16,10 @@ use Rattle.erl_names.specs.Order.{trunk_cmp}
 use Rattle.erl_term.specs.Order.{pid_cmp}
 use Rattle.erl_term.specs.declared.term.Pid.{Pid}
 use Rattle.link_core.specs.declared.end.End.{End}
-use Rattle.monitor_core.specs.Left.{without_owner, without_target}
-use Rattle.monitor_core.specs.Monitors.{MonitorMap, added}
+use Rattle.monitor_core.specs.Left.{without_held, without_owner}
+use Rattle.monitor_core.specs.Monitors.{RegistrationMap, WatchMap, added}
+use Rattle.monitor_core.specs.declared.monitor.Registration.{Registration}
+use Rattle.monitor_core.specs.declared.monitor.Watch.{Watch}
 use Rattle.node_tables.specs.Changes.{side_changed}
 use Rattle.node_tables.specs.declared.change.SideChange.{SideChange}
 use Rattle.node_tables.specs.Becomes.{end_changed}
@@ -75,22 +77,22 @@ ends_after (change.Of p e l) ends = ends_left l p (end_after e p ends)
 
 -- ---- the monitors: first one comes or goes, and then those of a process that ends
 
-abbrev pub watched : MonitorChange → MonitorMap → MonitorMap
+abbrev pub watched : MonitorChange Watch → WatchMap → WatchMap
 watched monitor.Stays watches = watches
 watched (monitor.Adds r m) watches = fm.insert watches r m
 watched (monitor.Removes r) watches = fm.remove watches r
 
-abbrev pub registered : MonitorChange → MonitorMap → MonitorMap
+abbrev pub registered : MonitorChange Registration → RegistrationMap → RegistrationMap
 registered monitor.Stays watchers = watchers
 registered (monitor.Adds r m) watchers = added watchers r m
 registered (monitor.Removes r) watchers = fm.remove watchers r
 
-abbrev pub watches_left : Change → MonitorMap → MonitorMap
+abbrev pub watches_left : Change → WatchMap → WatchMap
 watches_left (change.Of p e (life.Ends reason)) watches = without_owner watches p
 watches_left _ watches = watches
 
-abbrev pub watchers_left : Change → MonitorMap → MonitorMap
-watchers_left (change.Of p e (life.Ends reason)) watchers = without_target watchers p
+abbrev pub watchers_left : Change → RegistrationMap → RegistrationMap
+watchers_left (change.Of p e (life.Ends reason)) watchers = without_held watchers p
 watchers_left _ watchers = watchers
 
 -- ---- the own list: its first item is taken, and others come

@@ -1,13 +1,13 @@
--- What a node keeps throughout, besides what dist_model says of any node.
+-- Invariants of a node, besides those that dist_model states for any node.
 use Rattle.std.specs.Prelude.{◌≡◌, ◌<◌, ℕ, None}
 use Rattle.std.specs.FinMap as fm
 use Rattle.erl_handshake.specs.declared.identity.Identity.{Identity}
 use Rattle.erl_names.specs.Ids.{reference_of}
 use Rattle.erl_names.specs.Minted.{Minted}
-use Rattle.monitor_core.specs.Monitors.{MonitorMap}
+use Rattle.monitor_core.specs.Monitors.{WatchMap}
 
 -- no monitor of its own has a reference that is still to be drawn
-abbrev pub AreDrawn : MonitorMap → Minted → Type 0
+abbrev pub AreDrawn : WatchMap → Minted → Type 0
 AreDrawn watches m = (count : ℕ) → m.references < count → fm.get watches (reference_of m count) ≡ None
 
 -- it introduces itself as what it is

@@ -7,6 +7,9 @@ use Rattle.node_plan.specs.declared.change.Change.{Change}
 use Rattle.node_plan.specs.declared.change.Change.TheVariants as change
 use Rattle.node_plan.specs.declared.change.LinkChange.{LinkChange}
 use Rattle.node_plan.specs.declared.change.LinkChange.TheVariants as link
+use Rattle.monitor_core.specs.Monitors.{target_node}
+use Rattle.monitor_core.specs.declared.monitor.Registration.{Registration}
+use Rattle.monitor_core.specs.declared.monitor.Watch.{Watch}
 use Rattle.node_plan.specs.declared.change.MonitorChange.{MonitorChange}
 use Rattle.node_plan.specs.declared.change.MonitorChange.TheVariants as monitor
 use Rattle.node_tables.specs.declared.end_change.EndChange.{EndChange}
@@ -26,10 +29,10 @@ abbrev pub changes_towards : Name → Change → Bool
 changes_towards peer (change.Of p e l) = links_towards peer e
 changes_towards peer _ = false
 
-abbrev pub watches_towards : Name → MonitorChange → Bool
-watches_towards peer (monitor.Adds r m) = same_name m.target.node peer
+abbrev pub watches_towards : Name → MonitorChange Watch → Bool
+watches_towards peer (monitor.Adds r m) = same_name (target_node m.target) peer
 watches_towards peer _ = false
 
-abbrev pub registers_towards : Name → MonitorChange → Bool
+abbrev pub registers_towards : Name → MonitorChange Registration → Bool
 registers_towards peer (monitor.Adds r m) = same_name m.owner.node peer
 registers_towards peer _ = false

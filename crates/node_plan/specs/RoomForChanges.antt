@@ -1,4 +1,4 @@
--- Whether there is room for what changes add.
+-- Reserved memory for changes.
 use Rattle.std.specs.Prelude.{◌≡◌, ◌≤◌, ◌-◌, ◌^◌, ◌<◌, true, Option}
 use Rattle.monitor_core.specs.Monitors.{Held}
 use Rattle.node_tables.specs.Held.{HasRoom, held}
@@ -27,6 +27,6 @@ ChangeFits change.None it = Unit {0}
 ChangeFits change.Spawns it = HasRoom it × (it.up ≡ true) × (it.mint.pids < 2 ^ 32 - 1)
 ChangeFits (change.Of p e l) it = EndFits e (held it p) × LifeFits l (held it p)
 
-abbrev pub MonitorFits : MonitorChange → Held → Type 0
+abbrev pub MonitorFits : {M : Type 0} → MonitorChange M → Held M → Type 0
 MonitorFits (monitor.Adds r m) monitors = 1 ≤ monitors.room
 MonitorFits _ monitors = Unit {0}

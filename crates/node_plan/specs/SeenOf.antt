@@ -4,13 +4,15 @@ use Rattle.dist_model.specs.Node as model
 use Rattle.erl_control.specs.declared.signal.Signal.{Signal}
 use Rattle.erl_handshake.specs.declared.identity.Identity.{Identity}
 use Rattle.monitor_core.specs.Monitors.{Held}
+use Rattle.monitor_core.specs.declared.monitor.Registration.{Registration}
+use Rattle.monitor_core.specs.declared.monitor.Watch.{Watch}
 use Rattle.node_tables.specs.Sides.{sides}
 use Rattle.node_tables.specs.declared.sides.Sides.{Sides}
 use Rattle.node_tables.specs.Held.{ends, lives}
 use Rattle.node_tables.specs.declared.incarnation.Incarnation.{Incarnation}
 use Rattle.node_plan.specs.OwnList.{own_item}
 
-abbrev pub seen_of : Incarnation → Identity → ℕ → (watches watchers : Held) → Sides → List Signal → model.Node
+abbrev pub seen_of : Incarnation → Identity → ℕ → (watches : Held Watch) → (watchers : Held Registration) → Sides → List Signal → model.Node
 seen_of it own dialed watches watchers held local = record {
   mint = it.mint;
   cookie = own.cookie;

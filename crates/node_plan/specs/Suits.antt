@@ -15,6 +15,7 @@ use Rattle.node_plan.specs.declared.change.Change.{Change}
 use Rattle.node_plan.specs.declared.change.Change.TheVariants as change
 use Rattle.node_plan.specs.declared.change.Draws.{Draws}
 use Rattle.node_plan.specs.declared.change.Draws.TheVariants as draws
+use Rattle.monitor_core.specs.declared.monitor.Watch.{Watch}
 use Rattle.node_plan.specs.declared.change.MonitorChange.{MonitorChange}
 use Rattle.node_plan.specs.declared.change.MonitorChange.TheVariants as monitor
 
@@ -25,7 +26,7 @@ Suits change.Spawns up m lives = (up ≡ true) × (m.pids < 2 ^ 32 - 1)
 Suits (change.Of p e l) up m lives = is_living_life (fm.get lives p) ≡ true
 
 -- a monitor comes under the next reference, which is drawn for it
-abbrev pub IsNext : MonitorChange → Draws → Minted → Type 0
+abbrev pub IsNext : MonitorChange Watch → Draws → Minted → Type 0
 IsNext monitor.Stays draw m = Unit {0}
 IsNext (monitor.Adds r owned) draw m = (draw ≡ draws.Reference) × (r ≡ reference_of m (m.references + 1)) × (m.references < 2 ^ 18 - 1)
 IsNext (monitor.Removes r) draw m = Unit {0}

@@ -1,7 +1,6 @@
-//! What becomes of what a node keeps.
+//! The changes of a node's processes, links and monitors.
 
 use erl_term::{Payload, Pid, Reference};
-use monitor_core::Monitor;
 use node_tables::EndChange;
 
 /// A change of a process's end of a link.
@@ -46,14 +45,14 @@ pub enum Change {
     },
 }
 
-/// A change of monitors.
+/// A change of the monitors that processes of the node own, or of those that others have of its processes.
 #[derive(Drop)]
-pub enum MonitorChange {
+pub enum MonitorChange<M> {
     /// All stay.
     Stays,
-    /// One comes.
-    Adds(Reference, Monitor),
-    /// The one of this reference goes, if there is one.
+    /// A monitor comes.
+    Adds(Reference, M),
+    /// The monitor of this reference goes, if there is one.
     Removes(Reference),
 }
 

@@ -36,7 +36,7 @@ mod telling;
 
 pub use change::{Change, Draws, LifeChange, LinkChange, MonitorChange};
 pub use changing_processes::{change_processes, draw, reserve_processes};
-pub use copying::{copied, monitor_between};
+pub use copying::{copied, registration_between, watch_between};
 pub use monitors::{change_watchers, change_watches, reserve_watchers, reserve_watches};
 pub use node::Node;
 pub use own_list::keep;

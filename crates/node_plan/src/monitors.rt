@@ -1,17 +1,17 @@
-//! What becomes of monitors.
+//! The changes of monitors.
 ghost use Rattle.std.specs.Prelude.{◌≡◌, OnOk};
 ghost use Rattle.node_plan.specs.Changed as after;
 ghost use Rattle.node_plan.specs.Fresh.{IsFresh};
 ghost use Rattle.node_plan.specs.RoomForChanges.{MonitorFits};
 
 use crate::change::{Change, LifeChange, MonitorChange};
-use monitor_core::{Watchers, Watches};
+use monitor_core::{Registration, Watch, Watchers, Watches};
 use std::alloc::AllocError;
 
-/// A monitor of a process here comes or goes, and then those that a process owns which ends. Takes no
-/// memory. (Reference Manual, Processes, Monitors.)
+/// Applies the change of a monitor that a process here owns. Then removes those of a process that ends. Takes
+/// no memory. (Reference Manual, Processes, Monitors.)
 #[inline(always)]
-pub fn change_watches(watches: &mut Watches, own: MonitorChange, change: &Change)
+pub fn change_watches(watches: &mut Watches, own: MonitorChange<Watch>, change: &Change)
     requires room { MonitorFits own watches.old }
     requires fresh { IsFresh own watches.old.monitors }
     ensures { watches.new.monitors ≡ after.watches_left change.now (after.watched own watches.old.monitors) }
@@ -36,10 +36,10 @@ pub fn change_watches(watches: &mut Watches, own: MonitorChange, change: &Change
     }
 }
 
-/// A monitor that another has comes or goes, and then those that others have of a process which ends.
+/// Applies the change of a monitor that another has. Then removes those that are bound to a process that ends.
 /// Takes no memory. (Reference Manual, Processes, Monitors.)
 #[inline(always)]
-pub fn change_watchers(watchers: &mut Watchers, others: MonitorChange, change: &Change)
+pub fn change_watchers(watchers: &mut Watchers, others: MonitorChange<Registration>, change: &Change)
     requires { MonitorFits others watchers.old }
     ensures { watchers.new.monitors ≡ after.watchers_left change.now (after.registered others watchers.old.monitors) }
 {
@@ -59,15 +59,18 @@ pub fn change_watchers(watchers: &mut Watchers, others: MonitorChange, change: &
         ..
     } = change
     {
-        watchers.remove_targeting(process);
+        watchers.remove_held(process);
     }
 }
 
-/// Makes room for a monitor that comes.
+/// Reserves memory for a monitor that comes.
 ///
 /// # Errors
 /// Where there is no memory for it.
-pub fn reserve_watches(watches: &mut Watches, change: &MonitorChange) -> Result<(), AllocError>
+pub fn reserve_watches(
+    watches: &mut Watches,
+    change: &MonitorChange<Watch>,
+) -> Result<(), AllocError>
     ensures monitors { watches.new.monitors ≡ watches.old.monitors }
     ensures fits { OnOk result (MonitorFits change.now watches.new) }
 {
@@ -77,11 +80,14 @@ pub fn reserve_watches(watches: &mut Watches, change: &MonitorChange) -> Result<
     }
 }
 
-/// Makes room for a monitor that comes from another.
+/// Reserves memory for a monitor that comes from another.
 ///
 /// # Errors
 /// Where there is no memory for it.
-pub fn reserve_watchers(watchers: &mut Watchers, change: &MonitorChange) -> Result<(), AllocError>
+pub fn reserve_watchers(
+    watchers: &mut Watchers,
+    change: &MonitorChange<Registration>,
+) -> Result<(), AllocError>
     ensures monitors { watchers.new.monitors ≡ watchers.old.monitors }
     ensures fits { OnOk result (MonitorFits change.now watchers.new) }
 {

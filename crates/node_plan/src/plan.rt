@@ -2,6 +2,7 @@
 ghost use Rattle.std.specs.Prelude.{◌≡◌};
 
 use crate::change::{Change, Draws, MonitorChange};
+use monitor_core::{Registration, Watch};
 use dist_model::{Answer, Effect};
 use erl_control::Signal;
 use node_frames::Frame;
@@ -13,8 +14,8 @@ use node_tables::SideChange;
 pub struct Plan {
     pub(crate) draws: Draws,
     pub(crate) change: Change,
-    pub(crate) watches: MonitorChange,
-    pub(crate) watchers: MonitorChange,
+    pub(crate) watches: MonitorChange<Watch>,
+    pub(crate) watchers: MonitorChange<Registration>,
     /// Whether the first item of the own list is taken.
     pub(crate) pops: bool,
     pub(crate) local: Vec<Signal>,

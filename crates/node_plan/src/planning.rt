@@ -22,7 +22,7 @@ use crate::change::{Change, Draws, LifeChange, LinkChange, MonitorChange};
 use crate::plan::Plan;
 use dist_model::Answer;
 use erl_term::{Pid, Reference};
-use monitor_core::Monitor;
+use monitor_core::{Registration, Watch};
 use node_tables::EndChange;
 use std::alloc::{AllocError, Global};
 use std::mem;
@@ -156,7 +156,7 @@ impl Plan {
 impl Plan {
     /// A process here monitors another under the reference that is drawn for this. Takes no memory.
     /// (Reference Manual, Processes, Monitors.)
-    pub fn watch(&mut self, reference: Reference, owned: Monitor)
+    pub fn watch(&mut self, reference: Reference, owned: Watch)
         requires draws { self.old.draws ≡ the_draws.Reference }
         requires change { self.old.change ≡ change.None }
         requires watches { self.old.watches ≡ monitor.Stays }
@@ -180,7 +180,7 @@ impl Plan {
 
     /// Another has a monitor of a process here. Takes no memory. (Reference Manual, Processes,
     /// Monitors.)
-    pub fn register(&mut self, reference: Reference, owned: Monitor)
+    pub fn register(&mut self, reference: Reference, owned: Registration)
         requires change { self.old.change ≡ change.None }
         requires watchers { self.old.watchers ≡ monitor.Stays }
         ensures carries { (m : TheNode) (work : Work) → CarriesOut self.old m work → CarriesOut self.new m (monitoring.register reference owned work) }

@@ -5,10 +5,11 @@ ghost use Rattle.node_plan.specs.Registering.{changes_towards, is_new, links_tow
 use crate::change::{Change, LinkChange, MonitorChange};
 use erl_term::Atom;
 use link_core::LinkSignal;
+use monitor_core::{Registration, Watch};
 use node_frames::same_name;
 use node_tables::EndChange;
 
-// Whether an end comes where there was none.
+// Returns true if an end comes where there was none.
 fn is_new(how: &EndChange) -> bool
     ensures { result ≡ is_new how.now }
 {
@@ -18,6 +19,7 @@ fn is_new(how: &EndChange) -> bool
     )
 }
 
+// Returns true if a link comes to a process at a peer.
 fn links_towards(link: &LinkChange, peer: &Atom) -> bool
     ensures { result ≡ links_towards peer.now link.now }
 {
@@ -38,18 +40,18 @@ pub fn changes_towards(change: &Change, peer: &Atom) -> bool
 }
 
 /// Returns true if a monitor of a process at a peer comes. (Reference Manual, Processes, Monitors.)
-pub fn watches_towards(watches: &MonitorChange, peer: &Atom) -> bool
+pub fn watches_towards(watches: &MonitorChange<Watch>, peer: &Atom) -> bool
     ensures { result ≡ watches_towards peer.now watches.now }
 {
     match watches {
-        MonitorChange::Adds(_, monitor) => same_name(&monitor.target.node, peer),
+        MonitorChange::Adds(_, monitor) => same_name(monitor.target.node(), peer),
         MonitorChange::Stays | MonitorChange::Removes(_) => false,
     }
 }
 
 /// Returns true if a monitor comes that a process at a peer has. (Reference Manual, Processes,
 /// Monitors.)
-pub fn registers_towards(watchers: &MonitorChange, peer: &Atom) -> bool
+pub fn registers_towards(watchers: &MonitorChange<Registration>, peer: &Atom) -> bool
     ensures { result ≡ registers_towards peer.now watchers.now }
 {
     match watchers {

@@ -92,9 +92,9 @@ impl Change {
     }
 }
 
-impl MonitorChange {
-    /// This becomes of the monitors. Takes no memory.
-    pub fn set(&mut self, change: MonitorChange)
+impl<M: Drop> MonitorChange<M> {
+    /// Sets the change of the monitors. Takes no memory.
+    pub fn set(&mut self, change: MonitorChange<M>)
         ensures { self.new ≡ change }
     {
         drop(mem::replace(self, change));

@@ -1,10 +1,11 @@
 //! The end of a process.
-ghost use Rattle.std.specs.Prelude.{◌≡◌, true, if◌then◌else◌, [], ◌∷◌};
+ghost use Rattle.std.specs.Prelude.{◌≡◌, IfOk, true, if◌then◌else◌, []};
 ghost use Rattle.std.specs.FinMap as fm;
 ghost use Rattle.dist_model.specs.Exits.{demonitors, end_process, monitor_exits};
 ghost use Rattle.dist_model.specs.Names.{same_pid};
 ghost use Rattle.dist_model.specs.Node.{Node as TheNode, ends_of, living};
-ghost use Rattle.dist_model.specs.Work.{Work, post_all, to_pid};
+ghost use Rattle.dist_model.specs.Telling.{taken_back, told_end};
+ghost use Rattle.dist_model.specs.Work.{Work, post_all};
 ghost use Rattle.erl_control.specs.Fits.{fits};
 ghost use Rattle.erl_control.specs.declared.signal.Signal.TheVariants as signal;
 ghost use Rattle.link_core.specs.Table.{is_active};
@@ -18,7 +19,7 @@ ghost use Rattle.node_plan.specs.declared.change.MonitorChange.TheVariants as mo
 use erl_control::Signal;
 use erl_term::{Payload, Pid, Reference};
 use link_core::End;
-use monitor_core::Monitor;
+use monitor_core::{Registration, Target, Watch};
 use node_frames::same_pid;
 use node_plan::{Node, Plan};
 use std::alloc::{AllocError, Global};
@@ -81,7 +82,50 @@ fn post_exits(
     Ok(())
 }
 
-// Posts MONITOR_P_EXIT to the owner of a monitor, if it is one of the process.
+// Returns MONITOR_P_EXIT of copies.
+fn monitor_exit_of(
+    alloc: Global,
+    from: &Pid,
+    to: &Pid,
+    reference: &Reference,
+    reason: &Payload,
+) -> Result<Signal, AllocError>
+    ensures { IfOk result (λ s. s ≡ signal.MonitorExit from.now to.now reference.now reason.now) }
+{
+    Ok(Signal::MonitorExit {
+        from: from.clone()?,
+        to: to.clone()?,
+        reference: reference.clone()?,
+        reason: reason.copy(alloc)?,
+    })
+}
+
+// Posts MONITOR_P_EXIT of the target to the owner of a monitor.
+fn post_end(
+    plan: &mut Plan,
+    alloc: Global,
+    node: &Node,
+    reason: &Payload,
+    reference: &Reference,
+    registration: &Registration,
+) -> Result<(), AllocError>
+    requires { fits reason.now ≡ true }
+    ensures carries { (work : Work) → CarriesOut plan.old (seen node.now) work → Carries (seen node.now) (post_all (told_end registration.now.target registration.now.owner reference.now reason.now) work) plan.new result }
+    ensures answer { plan.new.answer ≡ plan.old.answer }
+    ensures change { plan.new.change ≡ plan.old.change }
+    ensures watches { plan.new.watches ≡ plan.old.watches }
+    ensures watchers { plan.new.watchers ≡ plan.old.watchers }
+{
+    match &registration.target {
+        Target::Pid(target) => {
+            let signal = monitor_exit_of(alloc, target, &registration.owner, reference, reason)?;
+            plan.post(alloc, node, &registration.owner.node, signal)
+        }
+        Target::Name { .. } => Ok(()),
+    }
+}
+
+// Posts MONITOR_P_EXIT to the owner of a monitor, if it is bound to the process.
 fn post_monitor_exit(
     plan: &mut Plan,
     alloc: Global,
@@ -89,25 +133,19 @@ fn post_monitor_exit(
     process: &Pid,
     reason: &Payload,
     reference: &Reference,
-    monitor: &Monitor,
+    registration: &Registration,
 ) -> Result<(), AllocError>
     requires { fits reason.now ≡ true }
-    ensures carries { (work : Work) → CarriesOut plan.old (seen node.now) work → Carries (seen node.now) (post_all (if same_pid monitor.now.target process.now then to_pid monitor.now.owner (signal.MonitorExit process.now monitor.now.owner reference.now reason.now) ∷ [] else []) work) plan.new result }
+    ensures carries { (work : Work) → CarriesOut plan.old (seen node.now) work → Carries (seen node.now) (post_all (if same_pid registration.now.held process.now then told_end registration.now.target registration.now.owner reference.now reason.now else []) work) plan.new result }
     ensures answer { plan.new.answer ≡ plan.old.answer }
     ensures change { plan.new.change ≡ plan.old.change }
     ensures watches { plan.new.watches ≡ plan.old.watches }
     ensures watchers { plan.new.watchers ≡ plan.old.watchers }
 {
-    if !same_pid(&monitor.target, process) {
+    if !same_pid(&registration.held, process) {
         return Ok(());
     }
-    let signal = Signal::MonitorExit {
-        from: process.clone()?,
-        to: monitor.owner.clone()?,
-        reference: reference.clone()?,
-        reason: reason.copy(alloc)?,
-    };
-    plan.post(alloc, node, &monitor.owner.node, signal)
+    post_end(plan, alloc, node, reason, reference, registration)
 }
 
 // Posts MONITOR_P_EXIT to the owner of each monitor of the process.
@@ -127,8 +165,8 @@ fn post_monitor_exits(
 {
     let watchers = node.watchers();
     let mut behind: Option<&Reference> = None;
-    while let Some((reference, monitor)) = watchers.next_targeting(process, behind) {
-        post_monitor_exit(plan, alloc, node, process, reason, reference, monitor)?;
+    while let Some((reference, registration)) = watchers.next_held(process, behind) {
+        post_monitor_exit(plan, alloc, node, process, reason, reference, registration)?;
         behind = Some(reference);
     }
     Ok(())
@@ -141,23 +179,18 @@ fn post_demonitor(
     node: &Node,
     process: &Pid,
     reference: &Reference,
-    monitor: &Monitor,
+    watch: &Watch,
 ) -> Result<(), AllocError>
-    ensures carries { (work : Work) → CarriesOut plan.old (seen node.now) work → Carries (seen node.now) (post_all (if same_pid monitor.now.owner process.now then to_pid monitor.now.target (signal.Demonitor process.now monitor.now.target reference.now) ∷ [] else []) work) plan.new result }
+    ensures carries { (work : Work) → CarriesOut plan.old (seen node.now) work → Carries (seen node.now) (post_all (if same_pid watch.now.owner process.now then taken_back process.now watch.now.target reference.now else []) work) plan.new result }
     ensures answer { plan.new.answer ≡ plan.old.answer }
     ensures change { plan.new.change ≡ plan.old.change }
     ensures watches { plan.new.watches ≡ plan.old.watches }
     ensures watchers { plan.new.watchers ≡ plan.old.watchers }
 {
-    if !same_pid(&monitor.owner, process) {
+    if !same_pid(&watch.owner, process) {
         return Ok(());
     }
-    let signal = Signal::Demonitor {
-        from: process.clone()?,
-        to: monitor.target.clone()?,
-        reference: reference.clone()?,
-    };
-    plan.post(alloc, node, &monitor.target.node, signal)
+    plan.tell_demonitor(alloc, node, process, &watch.target, reference)
 }
 
 // Posts DEMONITOR_P for each monitor that the process owns.
@@ -175,8 +208,8 @@ fn post_demonitors(
 {
     let watches = node.watches();
     let mut behind: Option<&Reference> = None;
-    while let Some((reference, monitor)) = watches.next_owned_by(process, behind) {
-        post_demonitor(plan, alloc, node, process, reference, monitor)?;
+    while let Some((reference, watch)) = watches.next_owned_by(process, behind) {
+        post_demonitor(plan, alloc, node, process, reference, watch)?;
         behind = Some(reference);
     }
     Ok(())

@@ -4,7 +4,8 @@ ghost use Rattle.dist_model.specs.Calls.{call};
 ghost use Rattle.dist_model.specs.Monitoring as monitoring;
 ghost use Rattle.dist_model.specs.Node.{Node as TheNode};
 ghost use Rattle.dist_model.specs.Node as model;
-ghost use Rattle.dist_model.specs.Work.{Work, at_work, draw, post, put, to_pid};
+ghost use Rattle.dist_model.specs.Telling.{taken_back};
+ghost use Rattle.dist_model.specs.Work.{Work, at_work, draw, post, post_all, put, to_pid};
 ghost use Rattle.dist_model.specs.declared.command.Command.TheVariants as command;
 ghost use Rattle.dist_model.specs.declared.report.Answer.TheVariants as answer;
 ghost use Rattle.erl_control.specs.declared.signal.Signal.TheVariants as signal;
@@ -12,7 +13,7 @@ ghost use Rattle.erl_names.specs.Draw as kind;
 ghost use Rattle.exit_core.specs.Messages.{down_term};
 ghost use Rattle.erl_names.specs.Ids.{reference_of};
 ghost use Rattle.link_core.specs.News.{noconnection};
-ghost use Rattle.monitor_core.specs.Monitors.{monitor_of};
+ghost use Rattle.erl_term.specs.Data.{pid};
 ghost use Rattle.node_plan.specs.Carried.{Carries, CarriesOut, IsBlank};
 ghost use Rattle.node_plan.specs.Planned.{Plans};
 ghost use Rattle.node_plan.specs.Plans.{told};
@@ -26,9 +27,9 @@ use crate::reacting::no_connection;
 use dist_model::Answer;
 use erl_term::{Pid, Reference, Refusal};
 use exit_core::down_message;
-use monitor_core::Monitor;
+use monitor_core::Target;
 use node_frames::same_pid;
-use node_plan::{Node, Plan, copied, monitor_between, or_refuse};
+use node_plan::{Node, Plan, copied, or_refuse, watch_between};
 use std::alloc::{AllocError, Global};
 
 // Monitors a process whose node is reached, under the reference that is drawn for this.
@@ -45,11 +46,11 @@ fn monitor_reached(
     requires watches { plan.old.watches ≡ stays.Stays }
     requires next { reference.now ≡ reference_of (seen node.now).mint ((seen node.now).mint.references + 1) }
     requires below { (seen node.now).mint.references < 2 ^ 18 - 1 }
-    ensures carries { (work : Work) → CarriesOut plan.old (seen node.now) work → Carries (seen node.now) (post (to_pid target.now (signal.Monitor owner.now target.now reference.now)) (monitoring.watch reference.now (monitor_of owner.now target.now) work)) plan.new result }
+    ensures carries { (work : Work) → CarriesOut plan.old (seen node.now) work → Carries (seen node.now) (post (to_pid target.now (signal.Monitor owner.now target.now reference.now)) (monitoring.watch reference.now (monitoring.pid_watch owner.now target.now) work)) plan.new result }
     ensures told { (m : TheNode) → told plan.new m ≡ told plan.old m }
 {
-    let monitor = monitor_between(owner, target)?;
-    plan.watch(copied(reference)?, monitor);
+    let watch = watch_between(owner, target)?;
+    plan.watch(copied(reference)?, watch);
     plan.tell_monitor(alloc, node, owner, target, reference)
 }
 
@@ -62,7 +63,7 @@ fn monitor_lost(
     reference: &Reference,
 ) -> Result<(), AllocError>
     requires { plan.old.change ≡ change.None }
-    ensures carries { (m : TheNode) (work : Work) → model.living m owner.now ≡ true → CarriesOut plan.old m work → Carries m (put owner.now (down_term reference.now target.now noconnection) work) plan.new result }
+    ensures carries { (m : TheNode) (work : Work) → model.living m owner.now ≡ true → CarriesOut plan.old m work → Carries m (put owner.now (down_term reference.now (pid target.now) noconnection) work) plan.new result }
     ensures told { (m : TheNode) → told plan.new m ≡ told plan.old m }
 {
     let reason = no_connection(alloc)?;
@@ -140,11 +141,11 @@ fn demonitor_own(
     node: &Node,
     plan: &mut Plan,
     owner: &Pid,
-    target: &Pid,
+    target: &Target,
     reference: &Reference,
 ) -> Result<(), AllocError>
     requires { IsBlank plan.old }
-    ensures carries { (work : Work) → CarriesOut plan.old (seen node.now) work → Carries (seen node.now) (post (to_pid target.now (signal.Demonitor owner.now target.now reference.now)) (monitoring.unwatch reference.now work)) plan.new result }
+    ensures carries { (work : Work) → CarriesOut plan.old (seen node.now) work → Carries (seen node.now) (post_all (taken_back owner.now target.now reference.now) (monitoring.unwatch reference.now work)) plan.new result }
     ensures told { (m : TheNode) → told plan.new m ≡ told plan.old m }
 {
     plan.unwatch(copied(reference)?);
@@ -165,11 +166,11 @@ pub(crate) fn demonitor(
     ensures { Plans (seen node.now) (call (seen node.now) (command.Demonitor owner.now reference.now)) plan.new result }
 {
     acts(node, owner)?;
-    let Some(monitor) = node.watches().get(reference) else {
+    let Some(watch) = node.watches().get(reference) else {
         return Err(Refusal::NotTheOwner);
     };
-    if !same_pid(&monitor.owner, owner) {
+    if !same_pid(&watch.owner, owner) {
         return Err(Refusal::NotTheOwner);
     }
-    or_refuse(demonitor_own(alloc, node, plan, owner, &monitor.target, reference))
+    or_refuse(demonitor_own(alloc, node, plan, owner, &watch.target, reference))
 }

@@ -23,7 +23,6 @@ use erl_control::Signal;
 use erl_term::{Payload, Pid};
 use exit_core::down_message;
 use link_core::LinkSignal;
-use monitor_core::Monitor;
 use node_plan::{Node, Plan};
 use node_tables::EndChange;
 use std::alloc::{AllocError, Global};

@@ -1,7 +1,7 @@
 //! Monitors of processes, put in and taken out call by call.
-use crate::processes::{Process, pid, reference};
+use crate::processes::{Process, atom, pid, reference};
 use erl_term::{Atom, Pid, Reference, Refusal};
-use monitor_core::{Monitor, Watchers, Watches};
+use monitor_core::{Registration, Target, Watch, Watchers, Watches};
 use std::alloc::{AllocError, Global};
 use std::test::*;
 
@@ -15,20 +15,34 @@ const TARGET_OF_THE_NEXT: Process = ("b@h", 2, 2);
 
 const OWNER_OF_THE_NEXT: Process = ("a@h", 2, 1);
 
+/// A name, and its node.
+type Name = (&'static str, &'static str);
+
+const NAME: Name = ("q", "b@h");
+
+const ANOTHER_NAME: Name = ("r", "b@h");
+
+const NAME_ELSEWHERE: Name = ("q", "a@h");
+
 /// A call of a table of monitors. A reference is given by its word.
 #[derive(Clone, Copy)]
 enum Call {
     /// Puts in the monitor of a reference, with its owner and its target.
     Put(u32, Process, Process),
+    /// Puts in the monitor of a reference, with its owner and its target. One of others is bound to the
+    /// process.
+    PutNamed(u32, Process, Name, Process),
     /// A DOWN or a DEMONITOR_P for a reference, with the owner and the target.
     Ends(u32, Process, Process),
+    /// The same for a target that is a name.
+    EndsNamed(u32, Process, Name),
     Has(u32),
     Remove(u32),
-    /// Takes those of a process out: of its own monitors, or of those that target it.
+    /// Takes those of a process out: of its own monitors, or of those that are bound to it.
     RemoveAll(Process),
-    /// The first of a process: of its own monitors, or of those that target it.
+    /// The first of a process: of its own monitors, or of those that are bound to it.
     First(Process),
-    /// The number that a process has: of its own monitors, or of those that target it.
+    /// The number that a process has: of its own monitors, or of those that are bound to it.
     CountOf(Process),
     /// The last of those.
     LastOf(Process),
@@ -56,9 +70,9 @@ fn yes_or_no(is_so: bool) -> Answer {
     if is_so { Answer::Yes } else { Answer::No }
 }
 
-fn found(entry: Option<&(Reference, Monitor)>) -> Answer {
-    match entry {
-        Some((reference, _)) => match reference.words.as_slice() {
+fn found(reference: Option<&Reference>) -> Answer {
+    match reference {
+        Some(reference) => match reference.words.as_slice() {
             [word, ..] => Answer::Found(*word),
             [] => Answer::NotFound,
         },
@@ -69,8 +83,16 @@ fn found(entry: Option<&(Reference, Monitor)>) -> Answer {
 /// A walk has no more entries than that here.
 const MOST: usize = 100;
 
-/// Returns the reference of an entry.
-fn reference_of<'a>(entry: Option<&'a (Reference, Monitor)>) -> Option<&'a Reference> {
+/// Returns the reference of a watch.
+fn of_watch<'a>(entry: Option<&'a (Reference, Watch)>) -> Option<&'a Reference> {
+    match entry {
+        Some((reference, _)) => Some(reference),
+        None => None,
+    }
+}
+
+/// Returns the reference of a registration.
+fn of_registration<'a>(entry: Option<&'a (Reference, Registration)>) -> Option<&'a Reference> {
     match entry {
         Some((reference, _)) => Some(reference),
         None => None,
@@ -79,22 +101,22 @@ fn reference_of<'a>(entry: Option<&'a (Reference, Monitor)>) -> Option<&'a Refer
 
 /// Returns the number that a process owns, each found behind the one before, and the last of them.
 fn all_owned(watches: &Watches, owner: &Pid) -> (usize, Answer) {
-    let mut last: Option<&(Reference, Monitor)> = None;
+    let mut last: Option<&Reference> = None;
     for count in 0..MOST {
-        match watches.next_owned_by(owner, reference_of(last)) {
-            Some(entry) => last = Some(entry),
+        match of_watch(watches.next_owned_by(owner, last)) {
+            Some(reference) => last = Some(reference),
             None => return (count, found(last)),
         }
     }
     (MOST, found(last))
 }
 
-/// Returns the number that target a process, and the last of them.
-fn all_targeting(watchers: &Watchers, target: &Pid) -> (usize, Answer) {
-    let mut last: Option<&(Reference, Monitor)> = None;
+/// Returns the number that are bound to a process, and the last of them.
+fn all_held(watchers: &Watchers, held: &Pid) -> (usize, Answer) {
+    let mut last: Option<&Reference> = None;
     for count in 0..MOST {
-        match watchers.next_targeting(target, reference_of(last)) {
-            Some(entry) => last = Some(entry),
+        match of_registration(watchers.next_held(held, last)) {
+            Some(reference) => last = Some(reference),
             None => return (count, found(last)),
         }
     }
@@ -103,10 +125,10 @@ fn all_targeting(watchers: &Watchers, target: &Pid) -> (usize, Answer) {
 
 /// Returns the number of those whose targets are on the node.
 fn count_of_targets(watches: &Watches, node: &Atom) -> usize {
-    let mut last: Option<&(Reference, Monitor)> = None;
+    let mut last: Option<&Reference> = None;
     for count in 0..MOST {
-        match watches.next_towards(node, reference_of(last)) {
-            Some(entry) => last = Some(entry),
+        match of_watch(watches.next_towards(node, last)) {
+            Some(reference) => last = Some(reference),
             None => return count,
         }
     }
@@ -115,27 +137,49 @@ fn count_of_targets(watches: &Watches, node: &Atom) -> usize {
 
 /// Returns the number of those whose owners are on the node.
 fn count_of_owners(watchers: &Watchers, node: &Atom) -> usize {
-    let mut last: Option<&(Reference, Monitor)> = None;
+    let mut last: Option<&Reference> = None;
     for count in 0..MOST {
-        match watchers.next_towards(node, reference_of(last)) {
-            Some(entry) => last = Some(entry),
+        match of_registration(watchers.next_towards(node, last)) {
+            Some(reference) => last = Some(reference),
             None => return count,
         }
     }
     MOST
 }
 
-fn monitor_of(owner: Pid, target: Pid) -> Monitor {
-    Monitor { owner, target }
+fn watch_of(owner: Pid, target: Target) -> Watch {
+    Watch { owner, target }
 }
 
-fn monitor(alloc: Global, owner: Process, target: Process) -> Result<Monitor, Refusal> {
+fn registration_of(owner: Pid, target: Target, held: Pid) -> Registration {
+    Registration {
+        owner,
+        target,
+        held,
+    }
+}
+
+fn name(alloc: Global, name: Name) -> Result<Target, Refusal> {
+    let (name, node) = name;
+    let name = atom(alloc, name)?;
+    Ok(Target::Name {
+        name,
+        node: atom(alloc, node)?,
+    })
+}
+
+fn watch(alloc: Global, owner: Process, target: Process) -> Result<Watch, Refusal> {
     let owner = pid(alloc, owner)?;
-    Ok(monitor_of(owner, pid(alloc, target)?))
+    Ok(watch_of(owner, Target::Pid(pid(alloc, target)?)))
 }
 
-fn add(watches: &mut Watches, reference: Reference, monitor: Monitor) -> Result<(), AllocError> {
-    watches.add(reference, monitor)
+fn watch_by_name(alloc: Global, owner: Process, target: Name) -> Result<Watch, Refusal> {
+    let owner = pid(alloc, owner)?;
+    Ok(watch_of(owner, name(alloc, target)?))
+}
+
+fn add(watches: &mut Watches, reference: Reference, watch: Watch) -> Result<(), AllocError> {
+    watches.add(reference, watch)
 }
 
 fn puts_own(
@@ -147,7 +191,21 @@ fn puts_own(
     add(
         watches,
         reference(alloc, word)?,
-        monitor(alloc, owner, target)?,
+        watch(alloc, owner, target)?,
+    )?;
+    Ok(Answer::Done)
+}
+
+fn puts_own_by_name(
+    alloc: Global,
+    watches: &mut Watches,
+    call: (u32, Process, Name),
+) -> Result<Answer, Refusal> {
+    let (word, owner, target) = call;
+    add(
+        watches,
+        reference(alloc, word)?,
+        watch_by_name(alloc, owner, target)?,
     )?;
     Ok(Answer::Done)
 }
@@ -159,8 +217,19 @@ fn ends_own(
 ) -> Result<Answer, Refusal> {
     let (word, owner, target) = call;
     let reference = reference(alloc, word)?;
-    let monitor = monitor(alloc, owner, target)?;
-    Ok(yes_or_no(watches.on_down(&reference, &monitor)))
+    let watch = watch(alloc, owner, target)?;
+    Ok(yes_or_no(watches.on_down(&reference, &watch)))
+}
+
+fn ends_own_by_name(
+    alloc: Global,
+    watches: &mut Watches,
+    call: (u32, Process, Name),
+) -> Result<Answer, Refusal> {
+    let (word, owner, target) = call;
+    let reference = reference(alloc, word)?;
+    let watch = watch_by_name(alloc, owner, target)?;
+    Ok(yes_or_no(watches.on_down(&reference, &watch)))
 }
 
 fn removes_own(alloc: Global, watches: &mut Watches, process: Process) -> Result<Answer, Refusal> {
@@ -172,20 +241,49 @@ fn removes_own(alloc: Global, watches: &mut Watches, process: Process) -> Result
 fn call_own(alloc: Global, watches: &mut Watches, call: Call) -> Result<Answer, Refusal> {
     Ok(match call {
         Call::Put(word, owner, target) => puts_own(alloc, watches, (word, owner, target))?,
+        Call::PutNamed(word, owner, target, _) => puts_own_by_name(
+            alloc,
+            watches,
+            (word, owner, target),
+        )?,
         Call::Ends(word, owner, target) => ends_own(alloc, watches, (word, owner, target))?,
+        Call::EndsNamed(word, owner, target) => ends_own_by_name(
+            alloc,
+            watches,
+            (word, owner, target),
+        )?,
         Call::Has(word) => yes_or_no(watches.get(&reference(alloc, word)?).is_some()),
         Call::Remove(word) => yes_or_no(watches.remove(&reference(alloc, word)?)),
-        Call::First(process) => found(watches.first_owned_by(&pid(alloc, process)?)),
+        Call::First(process) => found(of_watch(watches.first_owned_by(&pid(alloc, process)?))),
         Call::CountOf(process) => Answer::Count(all_owned(watches, &pid(alloc, process)?).0),
         Call::LastOf(process) => all_owned(watches, &pid(alloc, process)?).1,
         Call::RemoveAll(process) => removes_own(alloc, watches, process)?,
-        Call::FirstTowards(process) => found(watches.first_towards(&pid(alloc, process)?.node)),
+        Call::FirstTowards(process) => found(of_watch(watches.first_towards(
+            &pid(alloc, process)?.node,
+        ))),
         Call::CountTowards(process) => Answer::Count(count_of_targets(
             watches,
             &pid(alloc, process)?.node,
         )),
-        Call::Last => found(watches.last()),
+        Call::Last => found(of_watch(watches.last())),
     })
+}
+
+fn registration(alloc: Global, owner: Process, target: Process) -> Result<Registration, Refusal> {
+    let owner = pid(alloc, owner)?;
+    let held = pid(alloc, target)?;
+    Ok(registration_of(owner, Target::Pid(pid(alloc, target)?), held))
+}
+
+fn registration_by_name(
+    alloc: Global,
+    owner: Process,
+    target: Name,
+    held: Process,
+) -> Result<Registration, Refusal> {
+    let owner = pid(alloc, owner)?;
+    let held = pid(alloc, held)?;
+    Ok(registration_of(owner, name(alloc, target)?, held))
 }
 
 fn puts(
@@ -194,7 +292,21 @@ fn puts(
     call: (u32, Process, Process),
 ) -> Result<Answer, Refusal> {
     let (word, owner, target) = call;
-    watchers.on_monitor(reference(alloc, word)?, monitor(alloc, owner, target)?)?;
+    watchers.on_monitor(reference(alloc, word)?, registration(alloc, owner, target)?)?;
+    Ok(Answer::Done)
+}
+
+fn puts_by_name(
+    alloc: Global,
+    watchers: &mut Watchers,
+    call: (u32, Process, Name),
+    held: Process,
+) -> Result<Answer, Refusal> {
+    let (word, owner, target) = call;
+    watchers.on_monitor(
+        reference(alloc, word)?,
+        registration_by_name(alloc, owner, target, held)?,
+    )?;
     Ok(Answer::Done)
 }
 
@@ -205,12 +317,23 @@ fn ends(
 ) -> Result<Answer, Refusal> {
     let (word, owner, target) = call;
     let reference = reference(alloc, word)?;
-    let monitor = monitor(alloc, owner, target)?;
-    Ok(yes_or_no(watchers.on_demonitor(&reference, &monitor)))
+    let watch = watch(alloc, owner, target)?;
+    Ok(yes_or_no(watchers.on_demonitor(&reference, &watch)))
+}
+
+fn ends_by_name(
+    alloc: Global,
+    watchers: &mut Watchers,
+    call: (u32, Process, Name),
+) -> Result<Answer, Refusal> {
+    let (word, owner, target) = call;
+    let reference = reference(alloc, word)?;
+    let watch = watch_by_name(alloc, owner, target)?;
+    Ok(yes_or_no(watchers.on_demonitor(&reference, &watch)))
 }
 
 fn removes(alloc: Global, watchers: &mut Watchers, process: Process) -> Result<Answer, Refusal> {
-    watchers.remove_targeting(&pid(alloc, process)?);
+    watchers.remove_held(&pid(alloc, process)?);
     Ok(Answer::Done)
 }
 
@@ -218,19 +341,32 @@ fn removes(alloc: Global, watchers: &mut Watchers, process: Process) -> Result<A
 fn call_of_others(alloc: Global, watchers: &mut Watchers, call: Call) -> Result<Answer, Refusal> {
     Ok(match call {
         Call::Put(word, owner, target) => puts(alloc, watchers, (word, owner, target))?,
+        Call::PutNamed(word, owner, target, held) => puts_by_name(
+            alloc,
+            watchers,
+            (word, owner, target),
+            held,
+        )?,
         Call::Ends(word, owner, target) => ends(alloc, watchers, (word, owner, target))?,
+        Call::EndsNamed(word, owner, target) => ends_by_name(
+            alloc,
+            watchers,
+            (word, owner, target),
+        )?,
         Call::Has(word) => yes_or_no(watchers.get(&reference(alloc, word)?).is_some()),
         Call::Remove(word) => yes_or_no(watchers.remove(&reference(alloc, word)?)),
-        Call::First(process) => found(watchers.first_targeting(&pid(alloc, process)?)),
-        Call::CountOf(process) => Answer::Count(all_targeting(watchers, &pid(alloc, process)?).0),
-        Call::LastOf(process) => all_targeting(watchers, &pid(alloc, process)?).1,
+        Call::First(process) => found(of_registration(watchers.first_held(&pid(alloc, process)?))),
+        Call::CountOf(process) => Answer::Count(all_held(watchers, &pid(alloc, process)?).0),
+        Call::LastOf(process) => all_held(watchers, &pid(alloc, process)?).1,
         Call::RemoveAll(process) => removes(alloc, watchers, process)?,
-        Call::FirstTowards(process) => found(watchers.first_towards(&pid(alloc, process)?.node)),
+        Call::FirstTowards(process) => found(of_registration(watchers.first_towards(
+            &pid(alloc, process)?.node,
+        ))),
         Call::CountTowards(process) => Answer::Count(count_of_owners(
             watchers,
             &pid(alloc, process)?.node,
         )),
-        Call::Last => found(watchers.last()),
+        Call::Last => found(of_registration(watchers.last())),
     })
 }
 
@@ -291,6 +427,27 @@ const OWN_OF_EACH: &[(Call, Answer)] = &[
     (Call::LastOf(OTHER), Answer::Found(3)),
 ];
 
+/// A DOWN ends the monitor of a name only if it names the same name on the same node.
+const OWN_BY_NAME: &[(Call, Answer)] = &[
+    (Call::PutNamed(1, OWNER, NAME, TARGET), Answer::Done),
+    (Call::Put(2, OWNER, TARGET), Answer::Done),
+    (
+        Call::PutNamed(3, OWNER, NAME_ELSEWHERE, OTHER),
+        Answer::Done,
+    ),
+    (Call::FirstTowards(TARGET), Answer::Found(1)),
+    (Call::CountTowards(TARGET), Answer::Count(2)),
+    (Call::CountTowards(OWNER), Answer::Count(1)),
+    (Call::Ends(1, OWNER, TARGET), Answer::No),
+    (Call::EndsNamed(1, OWNER, ANOTHER_NAME), Answer::No),
+    (Call::EndsNamed(1, OWNER, NAME_ELSEWHERE), Answer::No),
+    (Call::EndsNamed(1, OTHER, NAME), Answer::No),
+    (Call::EndsNamed(2, OWNER, NAME), Answer::No),
+    (Call::EndsNamed(1, OWNER, NAME), Answer::Yes),
+    (Call::EndsNamed(1, OWNER, NAME), Answer::No),
+    (Call::CountOf(OWNER), Answer::Count(2)),
+];
+
 const OF_OTHERS: &[(Call, Answer)] = &[
     (Call::Put(3, OWNER, TARGET), Answer::Done),
     (Call::Put(1, OWNER, TARGET), Answer::Done),
@@ -316,6 +473,26 @@ const OF_OTHERS: &[(Call, Answer)] = &[
     (Call::Last, Answer::Found(4)),
 ];
 
+/// A monitor by name is found by the process that it is bound to. A DEMONITOR_P names the name.
+const OF_OTHERS_BY_NAME: &[(Call, Answer)] = &[
+    (Call::PutNamed(1, OWNER, NAME, TARGET), Answer::Done),
+    (
+        Call::PutNamed(2, OWNER, NAME, TARGET_OF_THE_NEXT),
+        Answer::Done,
+    ),
+    (Call::Put(3, OWNER, TARGET), Answer::Done),
+    (Call::CountOf(TARGET), Answer::Count(2)),
+    (Call::First(TARGET_OF_THE_NEXT), Answer::Found(2)),
+    (Call::CountTowards(OWNER), Answer::Count(3)),
+    (Call::Ends(1, OWNER, TARGET), Answer::No),
+    (Call::EndsNamed(3, OWNER, NAME), Answer::No),
+    (Call::EndsNamed(2, OWNER, ANOTHER_NAME), Answer::No),
+    (Call::EndsNamed(2, OTHER, NAME), Answer::No),
+    (Call::EndsNamed(2, OWNER, NAME), Answer::Yes),
+    (Call::RemoveAll(TARGET), Answer::Done),
+    (Call::Last, Answer::NotFound),
+];
+
 /// The place of the first row that doesn't hold.
 fn first_wrong_own(alloc: Global, rows: &[(Call, Answer)]) -> Option<usize> {
     let mut watches = Watches::new(alloc);
@@ -330,14 +507,16 @@ fn first_wrong(alloc: Global, rows: &[(Call, Answer)]) -> Option<usize> {
 
 #[test]
 fn own_monitors(rt: HostRuntime) {
-    for rows in [OWN, OWN_IN_ORDER, OWN_OF_EACH] {
+    for rows in [OWN, OWN_IN_ORDER, OWN_OF_EACH, OWN_BY_NAME] {
         assert_eq!(rt; first_wrong_own(rt.alloc(), rows), None);
     }
 }
 
 #[test]
 fn monitors_of_others(rt: HostRuntime) {
-    assert_eq!(rt; first_wrong(rt.alloc(), OF_OTHERS), None);
+    for rows in [OF_OTHERS, OF_OTHERS_BY_NAME] {
+        assert_eq!(rt; first_wrong(rt.alloc(), rows), None);
+    }
 }
 
 /// Puts in a monitor. Returns true if its reference has one exactly where it was not refused.

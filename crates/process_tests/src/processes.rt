@@ -5,7 +5,7 @@ use std::alloc::Global;
 /// A process by its node, its incarnation and its id.
 pub type Process = (&'static str, u32, u32);
 
-fn atom(alloc: Global, text: &str) -> Result<Atom, Refusal> {
+pub fn atom(alloc: Global, text: &str) -> Result<Atom, Refusal> {
     let text = String::from_str(alloc, text)?;
     if !Atom::fits(text.as_str()) {
         return Err(Refusal::BadName);

@@ -2,22 +2,22 @@ use Rattle.monitor_core.proofs.Departures.{get_added, added_held, get_removed, e
 use Rattle.monitor_core.proofs.laws.one_entry.Goals as goal
 
 pub returns-clause-added : goal.returns-clause-added
-returns-clause-added c = get_added
+returns-clause-added g c = λ seen_as. get_added
 
 pub returns-clause-kept : goal.returns-clause-kept
-returns-clause-kept c = added_held
+returns-clause-kept g c = λ seen_as. added_held
 
 pub returns-clause-removed : goal.returns-clause-removed
-returns-clause-removed c = get_removed
+returns-clause-removed g c = λ seen_as. get_removed
 
 pub returns-clause-ended : goal.returns-clause-ended
-returns-clause-ended c = ended_held
+returns-clause-ended g c = ended_held
 
 pub returns-clause-not_ended : goal.returns-clause-not_ended
-returns-clause-not_ended c = not_ended
+returns-clause-not_ended g c = not_ended
 
 pub returns-clause-taken : goal.returns-clause-taken
-returns-clause-taken c = taken_by_end
+returns-clause-taken g c = taken_by_end
 
 pub returns-clause-others : goal.returns-clause-others
-returns-clause-others c = others_kept
+returns-clause-others g c = others_kept

@@ -3,6 +3,7 @@ use Rattle.dist_model.proofs.Entries.{watch_found}
 use Rattle.dist_model.specs.Monitoring.{unwatch}
 use Rattle.dist_model.specs.Names.{Name}
 use Rattle.dist_model.specs.Node.{living}
+use Rattle.dist_model.specs.Telling.{object}
 use Rattle.dist_model.specs.Work.{Work, at_work, put}
 use Rattle.exit_core.specs.Messages.{down_term}
 use Rattle.link_core.specs.News.{noconnection}
@@ -26,7 +27,7 @@ returns-clause-makes c =
     let m = seen c.args.node.now in
     let side = c.args.side.now in
     let watch = c.args.watch.now in
-    let work : Work = put watch.1.owner (down_term watch.0 watch.1.target noconnection) (unwatch watch.0 (at_work m)) in
+    let work : Work = put watch.1.owner (down_term watch.0 (object watch.1.target) noconnection) (unwatch watch.0 (at_work m)) in
     let lives : living m watch.1.owner ≡ true =
     c.args.node.now.steady.owners watch.0 watch.1 (watch_found side.peer m.watches watch c.requires.first).0 in
     let h : CarriesOut c.take_watch.new.plan m work =

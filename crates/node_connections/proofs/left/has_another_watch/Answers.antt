@@ -2,7 +2,8 @@ use Rattle.std.proofs.Common.{sym, ap, ◌∙◌}
 use Rattle.std.specs.Option.{is_some}
 use Rattle.dist_model.specs.Names.{same_name}
 use Rattle.monitor_core.proofs.Maps.{is_some_copied}
-use Rattle.monitor_core.specs.declared.monitor.Monitor.{Monitor}
+use Rattle.monitor_core.specs.Monitors.{target_node}
+use Rattle.monitor_core.specs.declared.monitor.Watch.{Watch}
 use Rattle.node_plan.specs.Seen.{seen}
 use Rattle.node_connections.proofs.Kept.{next_other}
 use Rattle.node_connections.proofs.left.has_another_watch.Goals as goal
@@ -11,4 +12,4 @@ pub returns : goal.returns
 returns c =
     c.is_some.ensures ∙ sym (is_some_copied c.next_towards.result) ∙ ap is_some c.next_towards.ensures
     ∙ next_other c.watches.result.now.monitors (seen c.args.node.now).watches c.watches.ensures
-    (λ (w : Monitor). same_name w.target.node c.args.peer.now) c.args.gone.now c.requires
+    (λ (w : Watch). same_name (target_node w.target) c.args.peer.now) c.args.gone.now c.requires

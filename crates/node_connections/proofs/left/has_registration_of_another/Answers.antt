@@ -4,20 +4,20 @@ use Rattle.std.specs.List.{list_any}
 use Rattle.std.specs.Option.{option_copied}
 use Rattle.dist_model.specs.Names.{same_name, same_pid}
 use Rattle.erl_term.specs.declared.term.Reference.{Reference}
-use Rattle.monitor_core.specs.Monitors.{MonitorMap}
+use Rattle.monitor_core.specs.Monitors.{RegistrationMap}
 use Rattle.monitor_core.specs.Sought.{is_behind}
-use Rattle.monitor_core.specs.declared.monitor.Monitor.{Monitor}
+use Rattle.monitor_core.specs.declared.monitor.Registration.{Registration}
 use Rattle.monitor_core.proofs.Walks.{fewer_ahead, next, walked, walked_all, walked_more, walked_none}
 use Rattle.node_plan.specs.Seen.{seen}
-use Rattle.node_connections.proofs.Kept.{and_false, any_filter, any_found, any_more, left_by_target, next_passes}
+use Rattle.node_connections.proofs.Kept.{and_false, any_filter, any_found, any_more, left_by_held, next_passes}
 use Rattle.node_connections.proofs.left.has_registration_of_another.Goals as goal
 
 pub loop-reference-init : goal.loop-reference-init
 loop-reference-init c =
     let peer = c.args.peer.now in
     let process = c.args.process.now in
-    let passes = λ (w : Monitor). same_name w.owner.node peer in
-    let test = λ (e : Reference × Monitor). same_name e.1.owner.node peer && not (same_pid e.1.target process) in
+    let passes = λ (w : Registration). same_name w.owner.node peer in
+    let test = λ (e : Reference × Registration). same_name e.1.owner.node peer && not (same_pid e.1.held process) in
     let entries = fm.entries c.watchers-watchers.result.now.monitors in
     ap (list_any test) (walked_none passes entries)
 
@@ -25,8 +25,8 @@ pub loop-reference-smaller : goal.loop-reference-smaller
 loop-reference-smaller c =
     let peer = c.args.peer.now in
     let process = c.args.process.now in
-    let passes = λ (w : Monitor). same_name w.owner.node peer in
-    let test = λ (e : Reference × Monitor). same_name e.1.owner.node peer && not (same_pid e.1.target process) in
+    let passes = λ (w : Registration). same_name w.owner.node peer in
+    let test = λ (e : Reference × Registration). same_name e.1.owner.node peer && not (same_pid e.1.held process) in
     let entries = fm.entries c.watchers-watchers.result.now.monitors in
     let behind = option_copied c.loop-reference.behind in
     let item = c.in-Some.field-0.now in
@@ -37,8 +37,8 @@ pub loop-reference-preserved : goal.loop-reference-preserved
 loop-reference-preserved c =
     let peer = c.args.peer.now in
     let process = c.args.process.now in
-    let passes = λ (w : Monitor). same_name w.owner.node peer in
-    let test = λ (e : Reference × Monitor). same_name e.1.owner.node peer && not (same_pid e.1.target process) in
+    let passes = λ (w : Registration). same_name w.owner.node peer in
+    let test = λ (e : Reference × Registration). same_name e.1.owner.node peer && not (same_pid e.1.held process) in
     let entries = fm.entries c.watchers-watchers.result.now.monitors in
     let behind = option_copied c.loop-reference.behind in
     let item = c.in-Some.field-0.now in
@@ -53,29 +53,29 @@ pub returns-then-not-same_pid : goal.returns-then-not-same_pid
 returns-then-not-same_pid c =
     let peer = c.args.peer.now in
     let process = c.args.process.now in
-    let passes = λ (w : Monitor). same_name w.owner.node peer in
-    let test = λ (e : Reference × Monitor). same_name e.1.owner.node peer && not (same_pid e.1.target process) in
+    let passes = λ (w : Registration). same_name w.owner.node peer in
+    let test = λ (e : Reference × Registration). same_name e.1.owner.node peer && not (same_pid e.1.held process) in
     let entries = fm.entries c.watchers-watchers.result.now.monitors in
     let behind = option_copied c.loop-reference.behind in
     let item = c.in-Some.field-0.now in
     let found : next passes behind entries ≡ Some item = sym c.next_towards.ensures ∙ ap option_copied c.in-Some.is in
-    let here = ap (λ (monitors : MonitorMap). list_any test (fm.entries monitors)) c.watchers-watchers.ensures in
+    let here = ap (λ (monitors : RegistrationMap). list_any test (fm.entries monitors)) c.watchers-watchers.ensures in
     let other = sym c.same_pid.ensures ∙ c.if-not-same_pid.true in
     let it : test item ≡ true =
-    ap (λ b. b && not (same_pid item.1.target process)) (next_passes passes behind entries item found) ∙ ap not other in
+    ap (λ b. b && not (same_pid item.1.held process)) (next_passes passes behind entries item found) ∙ ap not other in
     sym (any_found (λ r w. is_behind behind r && passes w) test entries item found it) ∙ here
-    ∙ left_by_target (seen c.args.node.now).registered (λ r w. same_name w.owner.node peer) test process (λ e. refl)
+    ∙ left_by_held (seen c.args.node.now).registered (λ r w. same_name w.owner.node peer) test process (λ e. refl)
 
 pub returns : goal.returns
 returns c =
     let peer = c.args.peer.now in
     let process = c.args.process.now in
-    let passes = λ (w : Monitor). same_name w.owner.node peer in
-    let test = λ (e : Reference × Monitor). same_name e.1.owner.node peer && not (same_pid e.1.target process) in
+    let passes = λ (w : Registration). same_name w.owner.node peer in
+    let test = λ (e : Reference × Registration). same_name e.1.owner.node peer && not (same_pid e.1.held process) in
     let entries = fm.entries c.watchers-watchers.result.now.monitors in
     let behind = option_copied c.loop-reference.behind in
-    let here = ap (λ (monitors : MonitorMap). list_any test (fm.entries monitors)) c.watchers-watchers.ensures in
+    let here = ap (λ (monitors : RegistrationMap). list_any test (fm.entries monitors)) c.watchers-watchers.ensures in
     let none : next passes behind entries ≡ None = sym c.next_towards.ensures ∙ ap option_copied c.in_default.is in
     sym c.loop-reference.invariant ∙ ap (list_any test) (walked_all passes behind entries none)
-    ∙ any_filter (λ (e : Reference × Monitor). passes e.1) test entries (λ e k. ap (λ b. b && not (same_pid e.1.target process)) k) ∙ here
-    ∙ left_by_target (seen c.args.node.now).registered (λ r w. same_name w.owner.node peer) test process (λ e. refl)
+    ∙ any_filter (λ (e : Reference × Registration). passes e.1) test entries (λ e k. ap (λ b. b && not (same_pid e.1.held process)) k) ∙ here
+    ∙ left_by_held (seen c.args.node.now).registered (λ r w. same_name w.owner.node peer) test process (λ e. refl)

@@ -4,15 +4,15 @@ use Rattle.std.specs.List.{list_any}
 use Rattle.std.specs.Option.{option_copied}
 use Rattle.dist_model.specs.Names.{same_name, same_pid}
 use Rattle.erl_term.specs.declared.term.Reference.{Reference}
-use Rattle.monitor_core.specs.declared.monitor.Monitor.{Monitor}
+use Rattle.monitor_core.specs.declared.monitor.Registration.{Registration}
 use Rattle.monitor_core.proofs.Walks.{ahead, walked}
 use Rattle.node_connections.proofs.left.has_registration_of_another.Given as goal
 
 -- none of those so far is of another process
 abbrev pub invariant-loop-reference : goal.invariant-loop-reference
 invariant-loop-reference l =
-    list_any (λ (e : Reference × Monitor). same_name e.1.owner.node l.peer && not (same_pid e.1.target l.process))
-    (walked (λ (m : Monitor). same_name m.owner.node l.peer) (option_copied l.behind) (fm.entries l.watchers.monitors)) ≡ false
+    list_any (λ (e : Reference × Registration). same_name e.1.owner.node l.peer && not (same_pid e.1.held l.process))
+    (walked (λ (m : Registration). same_name m.owner.node l.peer) (option_copied l.behind) (fm.entries l.watchers.monitors)) ≡ false
 
 abbrev pub decreases-loop-reference : goal.decreases-loop-reference
 decreases-loop-reference l = ahead (option_copied l.behind) (fm.entries l.watchers.monitors)

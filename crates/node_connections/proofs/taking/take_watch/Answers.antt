@@ -1,5 +1,6 @@
 use Rattle.std.proofs.Common.{◌≡◌, subst, rules}
 use Rattle.dist_model.specs.Monitoring.{unwatch}
+use Rattle.dist_model.specs.Telling.{object}
 use Rattle.dist_model.specs.Work.{put}
 use Rattle.erl_term.specs.Data.{Data}
 use Rattle.erl_term.specs.declared.term.Reference.{Reference}
@@ -10,10 +11,10 @@ use Rattle.node_connections.proofs.taking.take_watch.Goals as goal
 
 pub returns-clause-carries : goal.returns-clause-carries
 returns-clause-carries c = λ m w alive h.
-    let p = c.args.monitor.now.owner in
+    let p = c.args.watch.now.owner in
     let r = c.args.reference.now in
     let same : c.in_ok-copied.field-0 ≡ r = search rules in
-    let message : c.in_ok-message.message ≡ down_term r c.args.monitor.now.target noconnection = search rules in
+    let message : c.in_ok-message.message ≡ down_term r (object c.args.watch.now.target) noconnection = search rules in
     let P : Reference → Type 0 = λ r. CarriesOut c.unwatch.new.self m (unwatch r w) in
     let Q : Data → Type 0 = λ x. Carries m (put p x (unwatch r w)) c.put.new.self c.put.result in
     subst Q message (c.put.ensures.carries m (unwatch r w) alive (subst P same (c.unwatch.ensures.carries m w h)))

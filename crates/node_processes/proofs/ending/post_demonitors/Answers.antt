@@ -3,11 +3,11 @@ use Rattle.std.specs.FinMap as fm
 use Rattle.std.specs.Option.{option_copied}
 use Rattle.dist_model.specs.Exits.{demonitors}
 use Rattle.dist_model.specs.Names.{same_pid}
-use Rattle.dist_model.specs.Work.{Addressed, post_all, to_pid}
-use Rattle.erl_control.specs.declared.signal.Signal.{Signal}
+use Rattle.dist_model.specs.Work.{Addressed, post_all}
+use Rattle.dist_model.specs.Telling.{taken_back}
 use Rattle.erl_term.specs.declared.term.Reference.{Reference}
-use Rattle.monitor_core.specs.Monitors.{MonitorMap}
-use Rattle.monitor_core.specs.declared.monitor.Monitor.{Monitor}
+use Rattle.monitor_core.specs.Monitors.{WatchMap}
+use Rattle.monitor_core.specs.declared.monitor.Watch.{Watch}
 use Rattle.monitor_core.proofs.Walks.{fewer_ahead, next, walked, walked_all, walked_more, walked_none}
 use Rattle.node_plan.specs.Carried.{CarriesOut}
 use Rattle.node_plan.specs.Seen.{seen}
@@ -18,11 +18,11 @@ pub loop-reference-init : goal.loop-reference-init
 loop-reference-init c =
     let m = seen c.args.node.now in
     let p = c.args.process.now in
-    let passes = λ (w : Monitor). same_pid w.owner p in
+    let passes = λ (w : Watch). same_pid w.owner p in
     let entries = fm.entries c.watches-watches.result.now.monitors in
     record {
       told = λ w h. subst (CarriesOut c.args.plan.now m)
-          (ap (λ (l : List (Reference × Monitor)). post_all (demonitors p l) w) (sym (walked_none passes entries))) h;
+          (ap (λ (l : List (Reference × Watch)). post_all (demonitors p l) w) (sym (walked_none passes entries))) h;
       answer = search rules;
       change = search rules;
       watches = search rules;
@@ -33,7 +33,7 @@ pub loop-reference-smaller : goal.loop-reference-smaller
 loop-reference-smaller c =
     let m = seen c.args.node.now in
     let p = c.args.process.now in
-    let passes = λ (w : Monitor). same_pid w.owner p in
+    let passes = λ (w : Watch). same_pid w.owner p in
     let entries = fm.entries c.watches-watches.result.now.monitors in
     let behind = option_copied c.loop-reference.behind in
     let found : next passes behind entries ≡ Some c.in-Some.field-0.now = sym c.next_owned_by.ensures ∙ ap option_copied c.in-Some.is in
@@ -43,9 +43,9 @@ pub loop-reference-preserved : goal.loop-reference-preserved
 loop-reference-preserved c =
     let m = seen c.args.node.now in
     let p = c.args.process.now in
-    let passes = λ (w : Monitor). same_pid w.owner p in
+    let passes = λ (w : Watch). same_pid w.owner p in
     let entries = fm.entries c.watches-watches.result.now.monitors in
-    let told_of = λ (e : Reference × Monitor). cond (same_pid e.1.owner p) (to_pid e.1.target (Signal.Demonitor p e.1.target e.0) ∷ []) [] in
+    let told_of = λ (e : Reference × Watch). cond (same_pid e.1.owner p) (taken_back p e.1.target e.0) [] in
     let behind = option_copied c.loop-reference.behind in
     let found : next passes behind entries ≡ Some c.in-Some.field-0.now = sym c.next_owned_by.ensures ∙ ap option_copied c.in-Some.is in
     let item = c.in-Some.field-0.now in
@@ -66,14 +66,14 @@ pub returns-clause-carries : goal.returns-clause-carries
 returns-clause-carries c = λ w h.
     let m = seen c.args.node.now in
     let p = c.args.process.now in
-    let passes = λ (w : Monitor). same_pid w.owner p in
+    let passes = λ (w : Watch). same_pid w.owner p in
     let entries = fm.entries c.watches-watches.result.now.monitors in
     let behind = option_copied c.loop-reference.behind in
     let none : next passes behind entries ≡ None = sym c.next_owned_by.ensures ∙ ap option_copied c.in_default.is in
     let all = walked_all passes behind entries none in
     subst (CarriesOut c.loop-reference.plan m)
-    (ap (λ (l : List (Reference × Monitor)). post_all (demonitors p l) w) all
-    ∙ ap (λ (letters : List Addressed). post_all letters w) (flat_passing (λ (e : Reference × Monitor). same_pid e.1.owner p)
-    (λ (e : Reference × Monitor). to_pid e.1.target (Signal.Demonitor p e.1.target e.0) ∷ []) entries)
-    ∙ ap (λ (monitors : MonitorMap). post_all (demonitors p (fm.entries monitors)) w) c.watches-watches.ensures)
+    (ap (λ (l : List (Reference × Watch)). post_all (demonitors p l) w) all
+    ∙ ap (λ (letters : List Addressed). post_all letters w) (flat_passing (λ (e : Reference × Watch). same_pid e.1.owner p)
+    (λ (e : Reference × Watch). taken_back p e.1.target e.0) entries)
+    ∙ ap (λ (monitors : WatchMap). post_all (demonitors p (fm.entries monitors)) w) c.watches-watches.ensures)
     (c.loop-reference.invariant.told w h)

@@ -4,7 +4,7 @@ use Rattle.std.specs.Option.{option_copied}
 use Rattle.dist_model.specs.Exits.{demonitors}
 use Rattle.dist_model.specs.Names.{same_pid}
 use Rattle.dist_model.specs.Work.{Work, post_all}
-use Rattle.monitor_core.specs.declared.monitor.Monitor.{Monitor}
+use Rattle.monitor_core.specs.declared.monitor.Watch.{Watch}
 use Rattle.monitor_core.proofs.Walks.{ahead, walked}
 use Rattle.node_plan.specs.Carried.{CarriesOut}
 use Rattle.node_plan.specs.Seen.{seen}
@@ -14,7 +14,7 @@ use Rattle.node_processes.proofs.ending.post_demonitors.Given as goal
 abbrev pub invariant-loop-reference : goal.invariant-loop-reference
 invariant-loop-reference l = record {
   told : (work : Work) → CarriesOut l.fn.plan (seen l.node) work → CarriesOut l.plan (seen l.node)
-      (post_all (demonitors l.process (walked (λ (m : Monitor). same_pid m.owner l.process) (option_copied l.behind) (fm.entries l.watches.monitors))) work);
+      (post_all (demonitors l.process (walked (λ (m : Watch). same_pid m.owner l.process) (option_copied l.behind) (fm.entries l.watches.monitors))) work);
   answer : l.plan.answer ≡ l.fn.plan.answer;
   change : l.plan.change ≡ l.fn.plan.change;
   watches : l.plan.watches ≡ l.fn.plan.watches;

@@ -3,11 +3,11 @@ use Rattle.std.specs.FinMap as fm
 use Rattle.std.specs.Option.{option_copied}
 use Rattle.dist_model.specs.Exits.{monitor_exits}
 use Rattle.dist_model.specs.Names.{same_pid}
-use Rattle.dist_model.specs.Work.{Addressed, post_all, to_pid}
-use Rattle.erl_control.specs.declared.signal.Signal.{Signal}
+use Rattle.dist_model.specs.Work.{Addressed, post_all}
+use Rattle.dist_model.specs.Telling.{told_end}
 use Rattle.erl_term.specs.declared.term.Reference.{Reference}
-use Rattle.monitor_core.specs.Monitors.{MonitorMap}
-use Rattle.monitor_core.specs.declared.monitor.Monitor.{Monitor}
+use Rattle.monitor_core.specs.Monitors.{RegistrationMap}
+use Rattle.monitor_core.specs.declared.monitor.Registration.{Registration}
 use Rattle.monitor_core.proofs.Walks.{fewer_ahead, next, walked, walked_all, walked_more, walked_none}
 use Rattle.node_plan.specs.Carried.{CarriesOut}
 use Rattle.node_plan.specs.Seen.{seen}
@@ -19,11 +19,11 @@ loop-reference-init c =
     let m = seen c.args.node.now in
     let p = c.args.process.now in
     let x = c.args.reason.now in
-    let passes = λ (w : Monitor). same_pid w.target p in
+    let passes = λ (w : Registration). same_pid w.held p in
     let entries = fm.entries c.watchers-watchers.result.now.monitors in
     record {
       told = λ w h. subst (CarriesOut c.args.plan.now m)
-          (ap (λ (l : List (Reference × Monitor)). post_all (monitor_exits p x l) w) (sym (walked_none passes entries))) h;
+          (ap (λ (l : List (Reference × Registration)). post_all (monitor_exits p x l) w) (sym (walked_none passes entries))) h;
       answer = search rules;
       change = search rules;
       watches = search rules;
@@ -35,10 +35,10 @@ loop-reference-smaller c =
     let m = seen c.args.node.now in
     let p = c.args.process.now in
     let x = c.args.reason.now in
-    let passes = λ (w : Monitor). same_pid w.target p in
+    let passes = λ (w : Registration). same_pid w.held p in
     let entries = fm.entries c.watchers-watchers.result.now.monitors in
     let behind = option_copied c.loop-reference.behind in
-    let found : next passes behind entries ≡ Some c.in-Some.field-0.now = sym c.next_targeting.ensures ∙ ap option_copied c.in-Some.is in
+    let found : next passes behind entries ≡ Some c.in-Some.field-0.now = sym c.next_held.ensures ∙ ap option_copied c.in-Some.is in
     fewer_ahead passes behind entries c.in-Some.field-0.now found
 
 pub loop-reference-preserved : goal.loop-reference-preserved
@@ -46,11 +46,11 @@ loop-reference-preserved c =
     let m = seen c.args.node.now in
     let p = c.args.process.now in
     let x = c.args.reason.now in
-    let passes = λ (w : Monitor). same_pid w.target p in
+    let passes = λ (w : Registration). same_pid w.held p in
     let entries = fm.entries c.watchers-watchers.result.now.monitors in
-    let told_of = λ (e : Reference × Monitor). cond (same_pid e.1.target p) (to_pid e.1.owner (Signal.MonitorExit p e.1.owner e.0 x) ∷ []) [] in
+    let told_of = λ (e : Reference × Registration). cond (same_pid e.1.held p) (told_end e.1.target e.1.owner e.0 x) [] in
     let behind = option_copied c.loop-reference.behind in
-    let found : next passes behind entries ≡ Some c.in-Some.field-0.now = sym c.next_targeting.ensures ∙ ap option_copied c.in-Some.is in
+    let found : next passes behind entries ≡ Some c.in-Some.field-0.now = sym c.next_held.ensures ∙ ap option_copied c.in-Some.is in
     let item = c.in-Some.field-0.now in
     let more = walked_more passes behind entries item (fm.entries_sorted c.watchers-watchers.result.now.monitors) found in
     record {
@@ -70,14 +70,14 @@ returns-clause-carries c = λ w h.
     let m = seen c.args.node.now in
     let p = c.args.process.now in
     let x = c.args.reason.now in
-    let passes = λ (w : Monitor). same_pid w.target p in
+    let passes = λ (w : Registration). same_pid w.held p in
     let entries = fm.entries c.watchers-watchers.result.now.monitors in
     let behind = option_copied c.loop-reference.behind in
-    let none : next passes behind entries ≡ None = sym c.next_targeting.ensures ∙ ap option_copied c.in_default.is in
+    let none : next passes behind entries ≡ None = sym c.next_held.ensures ∙ ap option_copied c.in_default.is in
     let all = walked_all passes behind entries none in
     subst (CarriesOut c.loop-reference.plan m)
-    (ap (λ (l : List (Reference × Monitor)). post_all (monitor_exits p x l) w) all
-    ∙ ap (λ (letters : List Addressed). post_all letters w) (flat_passing (λ (e : Reference × Monitor). same_pid e.1.target p)
-    (λ (e : Reference × Monitor). to_pid e.1.owner (Signal.MonitorExit p e.1.owner e.0 x) ∷ []) entries)
-    ∙ ap (λ (monitors : MonitorMap). post_all (monitor_exits p x (fm.entries monitors)) w) c.watchers-watchers.ensures)
+    (ap (λ (l : List (Reference × Registration)). post_all (monitor_exits p x l) w) all
+    ∙ ap (λ (letters : List Addressed). post_all letters w) (flat_passing (λ (e : Reference × Registration). same_pid e.1.held p)
+    (λ (e : Reference × Registration). told_end e.1.target e.1.owner e.0 x) entries)
+    ∙ ap (λ (monitors : RegistrationMap). post_all (monitor_exits p x (fm.entries monitors)) w) c.watchers-watchers.ensures)
     (c.loop-reference.invariant.told w h)

@@ -1,8 +1,7 @@
 use Rattle.std.proofs.Common.{◌≡◌, subst, rules, ◌∙◌}
-use Rattle.dist_model.specs.Monitoring.{watch}
+use Rattle.dist_model.specs.Monitoring.{pid_watch, watch}
 use Rattle.erl_term.specs.declared.term.Reference.{Reference}
-use Rattle.monitor_core.specs.Monitors.{monitor_of}
-use Rattle.monitor_core.specs.declared.monitor.Monitor.{Monitor}
+use Rattle.monitor_core.specs.declared.monitor.Watch.{Watch}
 use Rattle.node_plan.specs.Carried.{CarriesOut}
 use Rattle.node_plan.specs.Seen.{seen}
 use Rattle.node_processes.proofs.monitoring.monitor_reached.Goals as goal
@@ -14,8 +13,8 @@ returns-clause-carries c = λ w h.
     let q = c.args.target.now in
     let r = c.in_ok-copied.field-0 in
     let same : r ≡ c.args.reference.now = search rules in
-    let between : c.in_ok-monitor.monitor ≡ monitor_of p q = search rules in
-    let P : Reference → Monitor → Type 0 = λ r o. CarriesOut c.watch.new.self m (watch r o w) in
+    let between : c.in_ok-watch.watch ≡ pid_watch p q = search rules in
+    let P : Reference → Watch → Type 0 = λ r o. CarriesOut c.watch.new.self m (watch r o w) in
     let k = c.watch.ensures.carries m w (same ∙ c.requires.next) c.requires.below h in
-    c.tell_monitor.ensures.carries (watch c.args.reference.now (monitor_of p q) w)
-    (subst (λ r. P r (monitor_of p q)) same (subst (P r) between k))
+    c.tell_monitor.ensures.carries (watch c.args.reference.now (pid_watch p q) w)
+    (subst (λ r. P r (pid_watch p q)) same (subst (P r) between k))

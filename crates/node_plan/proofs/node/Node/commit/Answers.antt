@@ -6,7 +6,7 @@ use Rattle.node_plan.specs.Seen.{seen}
 use Rattle.node_plan.specs.OwnList.{own_item}
 use Rattle.node_plan.specs.SeenOf.{seen_of}
 use Rattle.erl_names.specs.Minted.{Minted}
-use Rattle.monitor_core.specs.Monitors.{MonitorMap}
+use Rattle.monitor_core.specs.Monitors.{WatchMap}
 use Rattle.node_plan.specs.Keeps.{AreDrawn}
 use Rattle.node_plan.proofs.KeptAfter.{drawn_after, fresh_next, map_popped, named_after, sendable_after}
 use Rattle.node_plan.proofs.node.Node.commit.Goals as goal
@@ -45,7 +45,7 @@ invariant_of-self c =
             ∙ sym (ap (λ (m : Minted). m.creation) mint);
       };
       drawn = let P : Minted → Type 0 = AreDrawn c.change_watches.new.watches.monitors in subst P (sym mint)
-          (let Q : MonitorMap
+          (let Q : WatchMap
           → Type 0 = (λ watches. AreDrawn watches (drawn_by plan.draws (spawned_by plan.change old.incarnation.mint))) in
           subst Q (sym c.change_watches.ensures)
           (drawn_after plan.watches plan.draws plan.change old.incarnation.mint old.watches.monitors c.requires.sound.next old.drawn));

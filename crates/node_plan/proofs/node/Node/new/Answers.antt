@@ -7,7 +7,7 @@ use Rattle.dist_model.specs.Runs.{new_node}
 use Rattle.erl_handshake.specs.declared.identity.Identity.{Identity}
 use Rattle.erl_names.specs.Ids.{reference_of}
 use Rattle.erl_names.specs.Minted.{Minted, nothing_drawn}
-use Rattle.monitor_core.specs.Monitors.{MonitorMap}
+use Rattle.monitor_core.specs.Monitors.{WatchMap}
 use Rattle.erl_term.specs.Order.{reference_cmp}
 use Rattle.node_frames.specs.Sendable.{are_sendable}
 use Rattle.node_plan.specs.OwnList.{own_item}
@@ -41,7 +41,7 @@ invariant_of-result c =
         name = same ∙ sym (ap (λ (m : Minted). m.name) mint);
         creation = c.first.ensures ∙ sym (ap (λ (m : Minted). m.creation) mint);
       };
-      drawn = λ count l. ap (λ (watches : MonitorMap). fm.get watches (reference_of c.new.result.mint count)) c.new-2.ensures
+      drawn = λ count l. ap (λ (watches : WatchMap). fm.get watches (reference_of c.new.result.mint count)) c.new-2.ensures
           ∙ fm.get-empty reference_cmp (reference_of c.new.result.mint count);
       sendable = ap are_sendable c.new-5.ensures.items;
       steady = subst Steady (sym is) (steady_new name setup);

@@ -5,7 +5,7 @@ use Rattle.dist_model.specs.Keeping.{CountsOwn, Steady}
 use Rattle.erl_handshake.specs.declared.identity.Identity.{Identity}
 use Rattle.erl_names.specs.Ids.{reference_of}
 use Rattle.erl_names.specs.Minted.{Minted}
-use Rattle.monitor_core.specs.Monitors.{MonitorMap}
+use Rattle.monitor_core.specs.Monitors.{WatchMap}
 use Rattle.erl_term.specs.Order.{reference_cmp}
 use Rattle.node_frames.specs.Sendable.{are_sendable}
 use Rattle.node_plan.specs.Seen.{seen}
@@ -44,7 +44,7 @@ invariant_of-self-2 c =
         name = old.introduces.name ∙ sym (ap (λ (m : Minted). m.name) mint);
         creation = c.creation-self.ensures ∙ ap (λ (m : Minted). m.creation) c.mint.ensures;
       };
-      drawn = λ count l. ap (λ (watches : MonitorMap). fm.get watches (reference_of c.start.new.self.mint count)) c.new.ensures
+      drawn = λ count l. ap (λ (watches : WatchMap). fm.get watches (reference_of c.start.new.self.mint count)) c.new.ensures
           ∙ fm.get-empty reference_cmp (reference_of c.start.new.self.mint count);
       sendable = ap are_sendable c.clear.ensures.items;
       steady = subst Steady (sym is) (steady_started m old.steady);

@@ -4,7 +4,7 @@ use Rattle.dist_model.specs.Incarnations.{stopped}
 use Rattle.dist_model.specs.Keeping.{CountsOwn, Steady}
 use Rattle.erl_names.specs.Ids.{reference_of}
 use Rattle.erl_names.specs.Minted.{Minted}
-use Rattle.monitor_core.specs.Monitors.{MonitorMap}
+use Rattle.monitor_core.specs.Monitors.{WatchMap}
 use Rattle.erl_term.specs.Order.{reference_cmp}
 use Rattle.node_plan.specs.Seen.{seen}
 use Rattle.node_plan.specs.OwnList.{own_item}
@@ -36,7 +36,7 @@ invariant_of-self c =
         name = old.introduces.name ∙ sym (ap (λ (m : Minted). m.name) mint);
         creation = old.introduces.creation ∙ sym (ap (λ (m : Minted). m.creation) mint);
       };
-      drawn = λ count l. ap (λ (watches : MonitorMap). fm.get watches (reference_of c.stop.new.self.mint count)) c.new.ensures
+      drawn = λ count l. ap (λ (watches : WatchMap). fm.get watches (reference_of c.stop.new.self.mint count)) c.new.ensures
           ∙ fm.get-empty reference_cmp (reference_of c.stop.new.self.mint count);
       sendable = old.sendable;
       steady = subst Steady (sym is) (steady_stopped m old.steady);

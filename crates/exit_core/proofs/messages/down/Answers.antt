@@ -2,7 +2,7 @@ use Rattle.std.proofs.Common.{lit≤, rules}
 use Rattle.std.specs.Prelude.{codes}
 use Rattle.std.specs.Str.{IsAscii}
 use Rattle.exit_core.proofs.Names.{short_name}
-use Rattle.exit_core.proofs.messages.down_message.Goals as goal
+use Rattle.exit_core.proofs.messages.down.Goals as goal
 
 down_is_ascii : IsAscii (codes "DOWN")
 down_is_ascii = search rules
