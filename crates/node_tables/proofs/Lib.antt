@@ -13,3 +13,4 @@ pub mod Lost
 pub mod Seen
 pub mod Ended
 pub mod Stood
+pub mod Registered

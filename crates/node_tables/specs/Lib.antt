@@ -10,3 +10,5 @@ pub mod Passing
 pub mod Runs
 pub mod Apart
 pub mod Sought
+pub mod Turned
+pub mod Registered

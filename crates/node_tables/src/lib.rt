@@ -1,4 +1,4 @@
-//! The tables of a node: its processes with their links, and the sides of its connections.
+//! The tables of a node: its processes with their links and names, and the sides of its connections.
 //!
 //! Contracts see the maps that a node of `dist_model` keeps. A change of a table comes in two calls: one
 //! reserves memory, and the other, which never allocates, changes the table.
@@ -19,9 +19,12 @@ mod incarnation;
 mod life;
 mod lookup;
 mod making;
+mod names;
+mod naming;
 mod place_of_side;
 mod reading;
 mod reading_sides;
+mod registering;
 mod restarting;
 mod run;
 mod runs;
@@ -36,6 +39,9 @@ pub use change::SideChange;
 pub use end_change::EndChange;
 pub use incarnation::Incarnation;
 pub use life::Life;
+pub use names::Names;
+pub use naming::Naming;
+pub use registering::{one_name_each, others_keep_their_names};
 pub use seeking::FoundLink;
 pub use sides::Sides;
 pub use which::Which;
