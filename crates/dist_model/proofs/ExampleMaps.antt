@@ -13,7 +13,6 @@ use Rattle.erl_term.specs.Order.{pid_cmp, reference_cmp}
 use Rattle.erl_names.specs.declared.trunk.TrunkId.{TrunkId}
 use Rattle.erl_names.specs.Order.{trunk_cmp}
 use Rattle.link_core.specs.declared.end.End.{End}
-
 use Rattle.dist_model.specs.Names.{Name, pair_cmp, place_cmp}
 use Rattle.dist_model.specs.Items.{Item}
 use Rattle.dist_model.specs.Sides.{TrunkSide}

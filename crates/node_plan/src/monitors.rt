@@ -39,7 +39,11 @@ pub fn change_watches(watches: &mut Watches, own: MonitorChange<Watch>, change: 
 /// Applies the change of a monitor that another has. Then removes those that are bound to a process that ends.
 /// Takes no memory. (Reference Manual, Processes, Monitors.)
 #[inline(always)]
-pub fn change_watchers(watchers: &mut Watchers, others: MonitorChange<Registration>, change: &Change)
+pub fn change_watchers(
+    watchers: &mut Watchers,
+    others: MonitorChange<Registration>,
+    change: &Change,
+)
     requires { MonitorFits others watchers.old }
     ensures { watchers.new.monitors ≡ after.watchers_left change.now (after.registered others watchers.old.monitors) }
 {

@@ -2,9 +2,9 @@
 ghost use Rattle.std.specs.Prelude.{◌≡◌};
 
 use crate::change::{Change, Draws, MonitorChange};
-use monitor_core::{Registration, Watch};
 use dist_model::{Answer, Effect};
 use erl_control::Signal;
+use monitor_core::{Registration, Watch};
 use node_frames::Frame;
 use node_tables::SideChange;
 
