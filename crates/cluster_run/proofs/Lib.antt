@@ -1,2 +1,3 @@
 pub mod ThreadSafe
 pub mod Merged
+pub mod Asked

@@ -14,6 +14,7 @@ use Rattle.crossbeam_channel.specs.contracts.channel.Receiver as a_receiver
 use Rattle.crossbeam_channel.specs.contracts.channel.Sender as a_sender
 use Rattle.dist_model.proofs.links.Links.TheSendSync as links
 use Rattle.erl_handshake.proofs.setup.Setup.TheSendSync as setup
+use Rattle.erl_handshake.specs.contracts.identity.Identity as identity
 use Rattle.erl_names.proofs.name.NodeName.TheSendSync as name
 use Rattle.erl_names.specs.contracts.name.NodeName as a_name
 use Rattle.erl_names.proofs.trunk.TrunkId.TheSendSync as trunk
@@ -30,9 +31,12 @@ use Rattle.node_lock.proofs.dialing.Left.TheSendSync as left
 use Rattle.node_lock.proofs.outlet.Outlet.TheSendSync as outlet
 use Rattle.node_lock.specs.contracts.book.Book as book
 use Rattle.node_core.specs.contracts.node.Node as node
+use Rattle.node_plan.specs.contracts.node.Node as state
+use Rattle.node_tables.specs.contracts.incarnation.Incarnation as incarnation
+use Rattle.node_tables.specs.contracts.names.Names as names
+use Rattle.node_tables.specs.contracts.sides.Sides as sides
 use Rattle.node_history.specs.contracts.entry.Entry as entry
 use Rattle.node_history.specs.contracts.history.History as history
-use Rattle.node_lock.specs.contracts.lock.NodeLock as lock
 use Rattle.node_lock.specs.contracts.seat.Asked as asked
 use Rattle.node_lock.specs.contracts.seat.Receipt as receipt
 use Rattle.node_lock.specs.contracts.seat.Seat as seat
@@ -77,7 +81,7 @@ ruleset of_told = (
 entry_send : IsSend entry.the_row
 entry_send = search of_told depth 60 fits 20000
 
--- the tables of links and of monitors, which are trees
+-- the tables of links, of monitors and of names, which are trees
 ends_send : IsSend ends.the_row
 ends_send = search (NodeKnot.crosses, Crossing.crosses, pid.the_field_send, sendable) depth 60 fits 20000
 
@@ -90,11 +94,12 @@ watches_send = search (tree_send, Crossing.crosses, pid.the_field_send, referenc
 watchers_send : IsSend watchers.the_row
 watchers_send = search (tree_send, Crossing.crosses, pid.the_field_send, reference.the_field_send, sendable) depth 60 fits 20000
 
-node_field : IsSend node.the_field.row
-node_field = search (
+names_field : IsSend (names.the_field).row
+names_field = search (NodeKnot.crosses, Crossing.crosses, atom.the_send, pid.the_field_send, sendable) depth 60 fits 20000
+
+-- the other parts of a node, with the terms in them
+ruleset of_terms = (
   ends_send,
-  watches_send,
-  watchers_send,
   Crossing.crosses,
   TheKnot.crosses,
   atom.the_send,
@@ -102,7 +107,25 @@ node_field = search (
   reference.the_field_send,
   sendable,
 )
-    depth 60 fits 20000
+
+incarnation_field : IsSend (incarnation.the_field).row
+incarnation_field = search of_terms depth 60 fits 20000
+
+identity_field : IsSend (identity.the_field).row
+identity_field = search of_terms depth 60 fits 20000
+
+sides_field : IsSend (sides.the_field).row
+sides_field = search of_terms depth 60 fits 20000
+
+-- the parts of a node in their order
+node_field : IsSend node.the_field.row
+node_field = struct_send (shape node.the_type) (
+  struct_send (shape state.the_type) (
+    incarnation_field,
+    (names_field, (identity_field, (plain_send _ _ _ _ _, (watches_send, (watchers_send, (sides_field, (search of_terms depth 60 fits 20000, tt))))))),
+  ),
+  (search of_terms depth 60 fits 20000, tt),
+)
 
 history_field : IsSend history.the_field.row
 history_field = search (entry_send, node_field, Crossing.crosses, sendable) depth 60 fits 20000
@@ -111,12 +134,6 @@ book_send : IsSend book.the_row
 book_send = search
     (history_field, name.the_send, setup.the_send, outlet.the_send, left.the_send, Crossing.crosses, TheKnot.crosses, sendable)
     depth 60 fits 20000
-
-lock_send : IsSend (lock.the_field).row
-lock_send = search (book_send, Crossing.crosses, TheKnot.crosses, sendable) depth 60 fits 20000
-
-lock_sync : IsSync (lock.the_field).row
-lock_sync = search (book_send, Crossing.crosses, TheKnot.crosses, sendable) depth 60 fits 20000
 
 -- ---- a caller may be in any thread
 
@@ -163,7 +180,7 @@ marks_sync = vec.the_sync a_flag.the_row the_global.the_row TheImpl.ghosts flag.
 desk_send : IsSend desk.the_row
 desk_send = recorded_send (desk.the_field).row _ _ (desk.the_type).to_one
     (struct_send (shape desk.the_type) (
-      lock_send,
+      search (book_send, Crossing.crosses, TheKnot.crosses, sendable) depth 60 fits 20000,
       (
         search (worker.the_send, Crossing.crosses, sendable) depth 60 fits 20000,
         (box_send, (number.the_send, (number.the_send, (number.the_send, (number.the_send, (flag.the_field_send, (flag.the_field_send, (flag.the_field_send, (marks_send, tt))))))))),
@@ -173,7 +190,7 @@ desk_send = recorded_send (desk.the_field).row _ _ (desk.the_type).to_one
 desk_sync : IsSync desk.the_row
 desk_sync = recorded_sync (desk.the_field).row _ _ (desk.the_type).to_one
     (struct_sync (shape desk.the_type) (
-      lock_sync,
+      search (book_send, Crossing.crosses, TheKnot.crosses, sendable) depth 60 fits 20000,
       (
         search (worker.the_send, Crossing.crosses, sendable) depth 60 fits 20000,
         (box_sync, (number.the_sync, (number.the_sync, (number.the_sync, (number.the_sync, (flag.the_field_sync, (flag.the_field_sync, (flag.the_field_sync, (marks_sync, tt))))))))),

@@ -1,10 +1,12 @@
 //! The nodes of a world, and their callers.
-ghost use Rattle.std.specs.Prelude.{◌≡◌, ◌<◌, ◌≤◌, IfErr, IfOk, [], length};
+ghost use Rattle.std.specs.Prelude.{◌≡◌, ◌≢◌, ◌<◌, ◌≤◌, ◌+◌, IfErr, IfOk, OnOk, [], length};
+ghost use Rattle.std.specs.Arc.{arc_value};
 ghost use Rattle.std.specs.Fn.{FnOnceReturnsAt};
 ghost use Rattle.cluster_run.specs.Finishing.{IsFinished};
 ghost use Rattle.cluster_run.specs.Starting.{IsNoThread, IsStarted, IsUnstarted};
 ghost use Rattle.erl_term.specs.declared.refusal.Refusal.TheVariants.{NothingThere};
 ghost use Rattle.joined_books.specs.Faults.{IsFault};
+ghost use Rattle.joined_books.specs.declared.error.FinishError.TheVariants as fault;
 ghost use Rattle.node_core.specs.declared.node.Node.{Node as TheNode};
 ghost use Rattle.node_lock.specs.Calling.{Asks, IsCallRefusal, IsSameSeat};
 
@@ -20,7 +22,7 @@ use erl_names::NodeName;
 use erl_term::Refusal;
 use joined_books::{FinishError, merge_books};
 use node_core::Node;
-use node_lock::{Act, Book, NodeLock, Seat};
+use node_lock::{Act, Book, Seat, call};
 use std::alloc::{AllocError, Global};
 use std::sync::atomic::{AtomicBool, AtomicU64, Ordering};
 use std::sync::{Arc, Mutex, Wait};
@@ -36,9 +38,18 @@ struct Running<G> {
 
 impl<G: Drop> Drop for Running<G> {
     fn drop(self) {
+        drop(self.end());
+    }
+}
+
+impl<G> Running<G> {
+    // Tells the threads to end, and returns the state.
+    fn end(self) -> Arc<Shared<G>>
+        ensures { result ≡ self.shared }
+    {
         let Running { shared } = self;
         shared.end();
-        drop(shared);
+        shared
     }
 }
 
@@ -55,6 +66,7 @@ pub struct Cluster<G> {
     // The number of threads, and the channel on which each says that it has ended.
     started: usize,
     ended: Receiver<()>,
+    ghost desk_each: { length (arc_value running.shared).desks.items ≡ length nodes.items },
 }
 
 // Returns a mark for each of so many nodes.
@@ -76,7 +88,7 @@ fn desk(
 ) -> Result<Desk, AllocError> {
     let (box_for_offers, offers) = unbounded(alloc)?;
     Ok(Desk {
-        lock: NodeLock::new(book),
+        book: Mutex::new(book),
         worker: Mutex::new(Worker::new(alloc, place, offers, seed)),
         box_for_offers,
         shortages: AtomicU64::new(0),
@@ -91,7 +103,9 @@ fn desk(
 }
 
 // Returns copies of the names of all nodes.
-fn names_of(alloc: Global, nodes: &[(NodeName, Setup)]) -> Result<Vec<NodeName>, AllocError> {
+fn names_of(alloc: Global, nodes: &[(NodeName, Setup)]) -> Result<Vec<NodeName>, AllocError>
+    ensures { IfOk result (λ names. length names.items ≡ length nodes.now) }
+{
     let mut names = Vec::new(alloc);
     for (name, _) in nodes {
         names.push(name.clone()?)?;
@@ -100,13 +114,12 @@ fn names_of(alloc: Global, nodes: &[(NodeName, Setup)]) -> Result<Vec<NodeName>,
 }
 
 // Returns the desks of all nodes, whose challenges are counted from a seed.
-fn desks(alloc: Global, nodes: &[(NodeName, Setup)], seed: u32) -> Result<Vec<Desk>, AllocError> {
+fn desks(alloc: Global, nodes: &[(NodeName, Setup)], seed: u32) -> Result<Vec<Desk>, AllocError>
+    ensures { IfOk result (λ desks. length desks.items ≡ length nodes.now) }
+{
     let mut desks = Vec::new(alloc);
     for place in 0..nodes.len() {
         let names = names_of(alloc, nodes)?;
-        if place >= names.len() {
-            break;
-        }
         let (_, setup) = &nodes[place];
         let book = Book::new(alloc, names, place, setup.clone()?)?;
         desks.push(desk(alloc, book, place, nodes.len(), seed)?)?;
@@ -233,9 +246,10 @@ impl<G: Gate + Send + Sync + Drop + 'static> Cluster<G> {
         Ok(cluster)
     }
 
-    // Ends the threads, and waits until each has said that it has ended, which is its last action.
-    fn halt<R: Wait>(self, rt: &R) -> (Vec<(NodeName, Setup)>, Running<G>)
-        ensures { result.0.items ≡ self.nodes.items }
+    // Ends the threads, and waits until each has said that it has ended. It has let go of the state by then.
+    fn halt<R: Wait>(self, rt: &R) -> (Vec<(NodeName, Setup)>, Arc<Shared<G>>)
+        ensures nodes { result.0.items ≡ self.nodes.items }
+        ensures shared { result.1 ≡ self.running.shared }
     {
         let Cluster {
             nodes,
@@ -244,11 +258,11 @@ impl<G: Gate + Send + Sync + Drop + 'static> Cluster<G> {
             ended,
             ..
         } = self;
-        running.shared.end();
+        let shared = running.end();
         for _ in 0..started {
             let _ = ended.recv(rt);
         }
-        (nodes, running)
+        (nodes, shared)
     }
 
     /// Returns a new seat at a node. Never allocates.
@@ -272,8 +286,8 @@ impl<G: Gate + Send + Sync + Drop + 'static> Cluster<G> {
     /// among those of `seat`. (Reference Manual, Processes; ERTS User's Guide, Distribution Protocol.)
     ///
     /// # Errors
-    /// Those of [`NodeLock::call`]; and [`Refusal::StrangeSeat`] where there is no such node. On error the
-    /// seat does not change.
+    /// Those of [`call`]; and [`Refusal::StrangeSeat`] where there is no such node. On error the seat does
+    /// not change.
     pub fn call<R: Wait>(&self, rt: &R, seat: &mut Seat, act: Act) -> Result<usize, Refusal>
         ensures ok { IfOk result (Asks act seat.old seat.new) }
         ensures err { IfErr result (λ _. IsSameSeat seat.old seat.new) }
@@ -284,7 +298,7 @@ impl<G: Gate + Send + Sync + Drop + 'static> Cluster<G> {
             return Err(Refusal::StrangeSeat);
         };
         desk.calls.fetch_add(1, Ordering::SeqCst);
-        let place = desk.lock.call(rt, self.alloc, seat, act);
+        let place = call(self.alloc, &mut desk.book.lock(rt), seat, act);
         desk.ring();
         desk.calls.fetch_sub(1, Ordering::SeqCst);
         self.running.shared.tell_rest();
@@ -303,16 +317,14 @@ impl<G: Gate + Send + Sync + Drop + 'static> Cluster<G> {
     ) -> Result<A, Refusal>
         requires { F.IsAlwaysCallable f }
         ensures ok { IfOk result (λ said. (node : TheNode) × FnOnceReturnsAt F.FnOnce f node said) }
-        ensures err { IfErr result (λ e. e ≡ NothingThere) }
+        ensures there { IfOk result (λ _. node < length self.now.nodes.items) }
+        ensures err { IfErr result (λ e. (e ≡ NothingThere) × (length self.now.nodes.items ≤ node)) }
     {
         let Some(desk) = self.running.shared.desks.get(node) else {
             return Err(Refusal::NothingThere);
         };
-        let guard = desk.lock.lock(rt);
-        match &*guard {
-            Some(book) => Ok(f(book.node())),
-            None => Err(Refusal::NothingThere),
-        }
+        let book = desk.book.lock(rt);
+        Ok(f(book.node()))
     }
 
     /// Returns the number of times that a turn of a node has found no memory, and was tried again later. The
@@ -322,11 +334,8 @@ impl<G: Gate + Send + Sync + Drop + 'static> Cluster<G> {
     /// [`Refusal::NothingThere`] where there is no such node.
     pub fn shortages(&self, node: usize) -> Result<u64, Refusal>
         ensures there { IfOk result (λ _. node < length self.now.nodes.items) }
-        ensures err { IfErr result (λ e. e ≡ NothingThere) }
+        ensures err { IfErr result (λ e. (e ≡ NothingThere) × (length self.now.nodes.items ≤ node)) }
     {
-        if node >= self.nodes.len() {
-            return Err(Refusal::NothingThere);
-        }
         match self.running.shared.desks.get(node) {
             Some(desk) => Ok(desk.shortages.load(Ordering::SeqCst)),
             None => Err(Refusal::NothingThere),
@@ -350,15 +359,17 @@ impl<G: Gate + Send + Sync + Drop + 'static> Cluster<G> {
     ///
     /// # Errors
     /// Those of [`merge_books`] (`fault`). The nodes, the books and the seats come back with it. The error is
-    /// true of them, and each test that comes before it passes.
+    /// true of them, and each test that comes before it passes. Unless memory is wanting, there is a book for
+    /// each node (`books`).
     pub fn finish<R: Threads + Wait>(self, rt: &R, seats: Vec<Seat>) -> Result<Finished, Unmerged>
         ensures ok { IfOk result (λ it. (it.nodes.items ≡ self.nodes.items) × IsFinished self.nodes.items it.books.items seats.items it.trace.entries.items) }
         ensures fault { IfErr result (λ it. (it.nodes.items ≡ self.nodes.items) × (it.seats.items ≡ seats.items) × IsFault self.nodes.items it.books.items seats.items it.fault) }
+        ensures books { IfErr result (λ it. it.fault ≢ fault.OutOfMemory → length it.books.items ≡ length self.nodes.items) }
     {
         let alloc = self.alloc;
-        let (nodes, running) = self.halt(rt);
+        let (nodes, shared) = self.halt(rt);
         let mut books = Vec::new(alloc);
-        let merged = match take_books(rt, &running.shared, &mut books) {
+        let merged = match take_books(unshared(rt, shared), &mut books) {
             Ok(()) => merge_books(alloc, &nodes, &books, &seats),
             Err(_) => Err(FinishError::OutOfMemory),
         };
@@ -378,18 +389,30 @@ impl<G: Gate + Send + Sync + Drop + 'static> Cluster<G> {
     }
 }
 
-// Moves the books out of their locks to the end of `books`, up to the first that isn't there.
-fn take_books<R: Wait, G>(
-    rt: &R,
-    shared: &Shared<G>,
-    books: &mut Vec<Book>,
-) -> Result<(), AllocError> {
-    for desk in &shared.desks {
+// Returns the state that threads have shared, once none of them has it any more.
+fn unshared<R: Wait, G: Drop>(rt: &R, shared: Arc<Shared<G>>) -> Shared<G>
+    ensures { result ≡ arc_value shared }
+{
+    let mut shared = shared;
+    for _ in rt.forever() {
+        match Arc::try_unwrap(shared) {
+            Ok(state) => return state,
+            Err(still_shared) => shared = still_shared,
+        }
+        thread::yield_now();
+    }
+    unreachable!()
+}
+
+// Moves the books out of their locks to the end of `books`, as far as there is memory.
+fn take_books<G: Drop>(shared: Shared<G>, books: &mut Vec<Book>) -> Result<(), AllocError>
+    ensures { OnOk result (length books.new.items ≡ length books.old.items + length shared.desks.items) }
+{
+    let Shared { desks, .. } = shared;
+    for desk in desks {
         books.reserve(1)?;
-        let Some(book) = desk.lock.take(rt) else {
-            break;
-        };
-        books.push(book)?;
+        let Desk { book, .. } = desk;
+        books.push_reserved(book.into_inner());
     }
     Ok(())
 }

@@ -5,7 +5,7 @@ use crate::worker::Worker;
 use crossbeam_channel::Sender;
 use erl_names::NodeName;
 use node_frames::same_name;
-use node_lock::NodeLock;
+use node_lock::Book;
 use std::sync::atomic::{AtomicBool, AtomicU64, Ordering};
 use std::sync::{Mutex, Wait};
 use std::time::Duration;
@@ -18,7 +18,9 @@ const LONGEST_WAIT: u64 = 100;
 /// of new connections, and the counts by which its thread is woken and watched.
 #[derive(Drop)]
 pub(crate) struct Desk {
-    pub(crate) lock: NodeLock,
+    /// The book. What its type keeps holds whenever the lock is taken, and nothing else is known of it then.
+    /// No lock is over two nodes.
+    pub(crate) book: Mutex<Book>,
     /// The worker. Whoever takes a turn for the node holds this lock, and takes the book's inside it.
     pub(crate) worker: Mutex<Worker>,
     pub(crate) box_for_offers: Sender<Offer>,

@@ -42,7 +42,7 @@ fn look_at<R: Wait>(rt: &R, desk: &Desk) -> Found {
     if found.is_busy {
         return found;
     }
-    let guard = desk.lock.lock(rt);
+    let guard = desk.book.lock(rt);
     let found = Found::of(desk);
     drop(guard);
     found

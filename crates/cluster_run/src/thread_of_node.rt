@@ -24,11 +24,7 @@ fn set_piece(book: &mut Book, asked: usize) {
 // The same for the book of a desk.
 fn set_piece_at<R: Wait, G: Gate>(rt: &R, shared: &Shared<G>, desk: &Desk) {
     let asked = shared.gate.greatest_piece();
-    let mut guard = desk.lock.lock(rt);
-    if let Some(book) = &mut *guard {
-        set_piece(book, asked);
-    }
-    drop(guard);
+    set_piece(&mut desk.book.lock(rt), asked);
 }
 
 // Takes turns for the node of a desk. Tells the callers that wait if the cluster may have come to rest.

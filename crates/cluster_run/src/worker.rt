@@ -482,12 +482,7 @@ impl Worker {
 
     // Takes turns under the lock of the book.
     fn turns<R: Wait, G: Gate>(&mut self, rt: &R, shared: &Shared<G>, desk: &Desk) -> Turn {
-        let mut guard = desk.lock.lock(rt);
-        let turn = match &mut *guard {
-            Some(book) => self.turns_in(rt, shared, desk, book),
-            None => Turn::new(),
-        };
-        drop(guard);
+        let turn = self.turns_in(rt, shared, desk, &mut desk.book.lock(rt));
         if turn.shortages > 0 {
             // Only who holds the worker's lock changes it.
             let before = desk.shortages.load(Ordering::SeqCst);

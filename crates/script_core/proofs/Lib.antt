@@ -2,4 +2,5 @@ pub mod RunLemmas
 pub mod ScriptLemmas
 pub mod DrawnLemmas
 pub mod LineLemmas
+pub mod KeptLemmas
 pub mod Merging

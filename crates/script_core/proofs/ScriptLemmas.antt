@@ -168,7 +168,7 @@ keep_first x parts h =
     ap (λ (w : List (List ℕ)). without_empty_last (x ∷ w)) h.2 ∙ ap (λ (w : List (List ℕ)). x ∷ without_empty_last w) (sym h.2)
 
 -- a line break ends the line
-lines-break : (pending rest : List ℕ) → All (λ c. is_break c ≡ false) pending → lines_of (pending ++ 10 ∷ rest) ≡ pending ∷ lines_of rest
+pub lines-break : (pending rest : List ℕ) → All (λ c. is_break c ≡ false) pending → lines_of (pending ++ 10 ∷ rest) ≡ pending ∷ lines_of rest
 lines-break pending rest h =
     ap without_empty_last (slice_split_at is_break pending 10 rest h refl)
     ∙ keep_first pending (slice_split is_break rest) (one_part_more rest)
@@ -179,7 +179,7 @@ empty_last [] true e h = absurd (omega arith)
 empty_last (x ∷ xs) true e h = absurd (let none = eqb-true (length (x ∷ xs)) 0 e in omega arith)
 
 -- so does the end, where there is a line
-lines-end : (pending : List ℕ) → 0 < length pending → All (λ c. is_break c ≡ false) pending
+pub lines-end : (pending : List ℕ) → 0 < length pending → All (λ c. is_break c ≡ false) pending
     → lines_of (pending ++ []) ≡ lines_of (pending ++ 10 ∷ [])
 lines-end pending some h =
     ap lines_of (append-nil pending) ∙ ap without_empty_last (slice_split_none is_break pending h)
@@ -193,7 +193,7 @@ first_line (x ∷ xs) ys h =
     let k = first_line xs ys (All-tail (λ (c : ℕ). is_break c ≡ false) x xs h) in
     (k.0, k.1, slice_split-cons_no is_break x (xs ++ ys) (All-head (λ (c : ℕ). is_break c ≡ false) x xs h) ∙ ap (onto_first x) k.2)
 
-long_line : (xs ys : List ℕ) → 0 < length xs → All (λ c. is_break c ≡ false) xs → (front : List ℕ) × (more : List (List ℕ))
+pub long_line : (xs ys : List ℕ) → 0 < length xs → All (λ c. is_break c ≡ false) xs → (front : List ℕ) × (more : List (List ℕ))
     × (lines_of (xs ++ ys) ≡ (xs ++ front) ∷ more)
 long_line xs ys some h =
     let k = first_line xs ys h in
@@ -380,7 +380,7 @@ progress_front from input remaining s old new q =
     subst (λ (run : Run). AppendsFront run.text old new) (sym (ap (rest_of (opening from)) q.parts ∙ r.goes q.left))
     (front_more r.text (rest_of r.to q.left).text old new (front_whole r.text old new r.appended))
 
-consumed : (old new : Option (List ℕ)) (bs left : List ℕ) → old ≡ Some left → Consumes old new bs → (more : List ℕ)
+pub consumed : (old new : Option (List ℕ)) (bs left : List ℕ) → old ≡ Some left → Consumes old new bs → (more : List ℕ)
     × (new ≡ Some more) × (left ≡ bs ++ more)
 consumed None new bs left e h = absurd cc
 consumed (Some xs) None bs left e h = absurd h

@@ -2,4 +2,5 @@ pub mod Script
 pub mod Outcomes
 pub mod Drawn
 pub mod Lines
+pub mod Kept
 pub mod Threaded

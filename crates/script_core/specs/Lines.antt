@@ -1,5 +1,5 @@
 -- What a line comes to, at whatever runs the lines of a script.
-use Rattle.std.specs.Prelude.{◌≡◌, ℕ, List, ◌++◌, Result, Ok, Err}
+use Rattle.std.specs.Prelude.{◌≡◌, ℕ, List, [], ◌∷◌, ◌++◌, Result, Ok, Err}
 use Rattle.script_lines.specs.declared.reason.Reason.{Reason}
 use Rattle.script_session.specs.Session.{State, Step}
 use Rattle.script_session.specs.declared.session.Stop.{Stop}
@@ -19,3 +19,12 @@ abbrev pub Heeds : {S : Type 0} → (S → State → Type 0) → Result Step Rea
 Heeds stands does new old_text new_text (Ok x) = Steps stands does new old_text new_text
 Heeds stands does new old_text new_text (Err (stop.Bad reason)) = does ≡ Err reason
 Heeds stands does new old_text new_text (Err stop.OutOfMemory) = Unit {0}
+
+-- ---- what keeps its lines, and runs none
+
+-- the line is kept, or there is no memory for it
+abbrev pub Keeps : {S : Type 0} → (S → List (List ℕ) → Type 0) → (lines : List (List ℕ)) (line : List ℕ) → S
+    → Result (Unit {0}) Stop → Type 0
+Keeps keeps lines line new (Ok x) = keeps new (lines ++ line ∷ [])
+Keeps keeps lines line new (Err stop.OutOfMemory) = keeps new lines
+Keeps keeps lines line new (Err (stop.Bad reason)) = ⊥

@@ -1,22 +1,27 @@
-//! What runs the lines of a script.
+//! What runs the lines of a script, or keeps them.
 
 use script_lines::Reason;
 use script_session::{Session, Stop};
 use std::alloc::{AllocError, Global};
 
-/// What runs the lines of a script. Where it stands for a state, what a line does is a function of that
-/// and of the line.
+/// What runs the lines of a script, or keeps them. Where it stands for a state, what a line does is a
+/// function of that and of the line. Where it keeps lines, it keeps each next one behind them, and what is
+/// known of its nodes and names stays.
 pub(crate) trait Lines: Drop {
-    ghost use Rattle.std.specs.Prelude.{string_bytes};
-    ghost use Rattle.script_core.specs.Lines.{Heeds};
+    ghost use Rattle.std.specs.Prelude.{List, string_bytes, ℕ};
+    ghost use Rattle.script_core.specs.Lines.{Heeds, Keeps};
     ghost use Rattle.script_session.specs.Session.{State, line_does};
+    ghost use Rattle.script_threads.specs.Standing.{Known};
 
     ghost stands: { Self → State → Type 0 };
 
-    /// Runs a line, and puts what it prints behind what is printed.
+    ghost keeps: { Known → Self → List (List ℕ) → Type 0 };
+
+    /// Runs a line, and puts what it prints behind what is printed; or keeps it.
     fn line(&mut self, alloc: Global, line: &[u8], out: &mut String) -> Result<(), Stop>
-        ensures { (state : State) → stands self.old state →
-            Heeds stands (line_does state line.now) self.new (string_bytes out.old) (string_bytes out.new) result };
+        ensures runs { (state : State) → stands self.old state →
+            Heeds stands (line_does state line.now) self.new (string_bytes out.old) (string_bytes out.new) result }
+        ensures kept { (known : Known) (lines : List (List ℕ)) → keeps known self.old lines → Keeps (keeps known) lines line.now self.new result };
 
     /// Puts what is wrong with a bad line behind what is printed.
     fn put_advice(
@@ -32,6 +37,9 @@ impl Lines for Session {
     ghost use Rattle.script_session.specs.Stands.{IsSession};
 
     ghost stands = { IsSession };
+
+    // (it runs its lines)
+    ghost keeps = { λ _ _ _. ⊥ };
 
     fn line(&mut self, alloc: Global, line: &[u8], out: &mut String) -> Result<(), Stop> {
         Session::line(self, alloc, line, out)

@@ -1,11 +1,13 @@
 //! A script, read from any reader and answered on any writer.
 
-ghost use Rattle.std.specs.Prelude.{◌≡◌, ◌≤◌, ◌<◌, ◌+◌, ◌++◌, [], ◌∷◌, drop, length, take, IfNone, IfSome, IfOk, IfErr, OnOk, Option, List, ℕ, string_bytes};
+ghost use Rattle.std.specs.Prelude.{◌≡◌, ◌≤◌, ◌<◌, ◌+◌, ◌++◌, [], ◌∷◌, drop, length, take, IfNone, IfSome, IfOk, IfErr, OnOk, Option, Some, List, ℕ, string_bytes};
 ghost use Rattle.std.specs.Io.KnownBytes.{Appends};
 ghost use Rattle.script_core.specs.declared.script.Outcome.{Outcome};
 ghost use Rattle.script_core.specs.Drawn.{Draws, Ends};
+ghost use Rattle.script_core.specs.Kept.{Came, ComesToEnd, HasKept, ReadsOn};
 ghost use Rattle.script_core.specs.Script.{runs_from, script};
 ghost use Rattle.script_session.specs.Session.{State};
+ghost use Rattle.script_threads.specs.Standing.{Known};
 ghost use Rattle.diagram_svg.specs.Markup.{IsDocument};
 ghost use Rattle.script_core.specs.Outcomes.{status_of, fault_at, Answers, Position, opening, rest_of, IsAt, IsOneLine, Took, Progress, GoesOn, AppendsFront};
 
@@ -170,6 +172,7 @@ impl<S: Lines> Script<S> {
     pub(crate) fn new(alloc: Global, session: S) -> Script<S>
         ensures session { result.session ≡ session }
         ensures at { (state : State) → S.stands session state → IsAt S.stands result (opening state) }
+        ensures kept { (known : Known) → S.keeps known session [] → HasKept (S.keeps known) result 1 [] }
     {
         Script {
             session,
@@ -226,8 +229,10 @@ impl<S: Lines> Script<S> {
         reader: &mut R,
         writer: &mut W,
     ) -> Option<Outcome>
-        ensures { (from : State) (input : List ℕ) (held : Option (List ℕ)) → Progress from input (R.remaining reader.old) (IsAt S.stands self.old) held (W.contents writer.old)
+        ensures goes { (from : State) (input : List ℕ) (held : Option (List ℕ)) → Progress from input (R.remaining reader.old) (IsAt S.stands self.old) held (W.contents writer.old)
             → GoesOn from input (R.remaining reader.new) (IsAt S.stands self.new) held (W.contents writer.new) result }
+        ensures kept { (known : Known) (first : ℕ) (bytes left : List ℕ) → HasKept (S.keeps known) self.old first bytes → R.remaining reader.old ≡ Some left
+            → ReadsOn (S.keeps known) self.new first bytes left (R.remaining reader.new) result }
     {
         let mut chunk = [0u8; 4096];
         match reader.read(&mut chunk) {
@@ -243,7 +248,8 @@ impl<S: Lines> Script<S> {
 
     /// Takes more of the script: runs each line that ends in `bytes`, and keeps the bytes behind the last.
     fn take<W: Write>(&mut self, alloc: Global, bytes: &[u8], writer: &mut W) -> Result<(), Outcome>
-        ensures { (p : Position) → IsAt S.stands self.old p → Took p bytes.now (IsAt S.stands self.new) (W.contents writer.old) (W.contents writer.new) result }
+        ensures took { (p : Position) → IsAt S.stands self.old p → Took p bytes.now (IsAt S.stands self.new) (W.contents writer.old) (W.contents writer.new) result }
+        ensures kept { (known : Known) (first : ℕ) (before : List ℕ) → HasKept (S.keeps known) self.old first before → Came (S.keeps known) self.new first (before ++ bytes.now) result }
     {
         let mut rest = bytes;
         while let Some(parts) = split_line(rest) {
@@ -266,7 +272,8 @@ impl<S: Lines> Script<S> {
         writer: &mut W,
     ) -> Result<(), Outcome>
         requires { IsOneLine text.now }
-        ensures { (p : Position) → IsAt S.stands self.old p → Took p (text.now ++ (10 ∷ [])) (IsAt S.stands self.new) (W.contents writer.old) (W.contents writer.new) result }
+        ensures took { (p : Position) → IsAt S.stands self.old p → Took p (text.now ++ (10 ∷ [])) (IsAt S.stands self.new) (W.contents writer.old) (W.contents writer.new) result }
+        ensures kept { (known : Known) (first : ℕ) (before : List ℕ) → HasKept (S.keeps known) self.old first before → Came (S.keeps known) self.new first (before ++ text.now ++ (10 ∷ [])) result }
     {
         self.take_text(text)?;
         self.run_line(alloc, writer)
@@ -275,7 +282,8 @@ impl<S: Lines> Script<S> {
     /// Takes bytes of one line. No newline is among them.
     fn take_text(&mut self, text: &[u8]) -> Result<(), Outcome>
         requires { IsOneLine text.now }
-        ensures { (p : Position) (held : Option (List ℕ)) → IsAt S.stands self.old p → Took p text.now (IsAt S.stands self.new) held held result }
+        ensures took { (p : Position) (held : Option (List ℕ)) → IsAt S.stands self.old p → Took p text.now (IsAt S.stands self.new) held held result }
+        ensures kept { (known : Known) (first : ℕ) (before : List ℕ) → HasKept (S.keeps known) self.old first before → Came (S.keeps known) self.new first (before ++ text.now) result }
     {
         if text.len() > LINE_LIMIT.saturating_sub(self.pending.len()) {
             return Err(self.fault(Reason::TooLong));
@@ -300,6 +308,7 @@ impl<S: Lines> Script<S> {
     fn run_line<W: Write>(&mut self, alloc: Global, writer: &mut W) -> Result<(), Outcome>
         ensures next { OnOk result (self.new.pending.items ≡ []) }
         ensures took { (p : Position) → IsAt S.stands self.old p → Took p (10 ∷ []) (IsAt S.stands self.new) (W.contents writer.old) (W.contents writer.new) result }
+        ensures kept { (known : Known) (first : ℕ) (before : List ℕ) → HasKept (S.keeps known) self.old first before → Came (S.keeps known) self.new first (before ++ (10 ∷ [])) result }
     {
         if self.number > LINES {
             return Err(Outcome::Failed);
@@ -310,15 +319,16 @@ impl<S: Lines> Script<S> {
             Err(Stop::Bad(reason)) => return Err(Outcome::BadLine(self.number, reason)),
             Err(Stop::OutOfMemory) => return Err(Outcome::OutOfMemory),
         }
-        write_bytes(writer, out.as_bytes())?;
         self.pending.clear();
         self.number += 1;
+        write_bytes(writer, out.as_bytes())?;
         Ok(())
     }
 
     /// The script has come to its end.
     fn finish<W: Write>(&mut self, alloc: Global, writer: &mut W) -> Outcome
-        ensures { (p : Position) → IsAt S.stands self.old p → Answers (rest_of p []) (W.contents writer.old) (W.contents writer.new) result }
+        ensures answers { (p : Position) → IsAt S.stands self.old p → Answers (rest_of p []) (W.contents writer.old) (W.contents writer.new) result }
+        ensures kept { (known : Known) (first : ℕ) (before : List ℕ) → HasKept (S.keeps known) self.old first before → ComesToEnd (S.keeps known) self.new first before result }
     {
         if self.pending.is_empty() {
             return Outcome::Ran;

@@ -1,5 +1,7 @@
 //! Scripts whose nodes have threads.
-ghost use Rattle.script_core.specs.Threaded.{EndsMerged, Tells};
+ghost use Rattle.std.specs.Prelude.{◌≡◌, ◌≤◌, ◌+◌, [], List, length, ℕ};
+ghost use Rattle.script_core.specs.Threaded.{Along, EndsThreaded, RunsLine, RunsLines, RunsScript, Tells, fresh_known, kept_lines};
+ghost use Rattle.script_threads.specs.Standing.{IsKnown, Known};
 
 use crate::lines::Lines;
 use crate::options::Options;
@@ -19,7 +21,10 @@ pub(crate) struct InThreads {
 }
 
 impl InThreads {
-    fn new(alloc: Global, seed: u32) -> InThreads {
+    fn new(alloc: Global, seed: u32) -> InThreads
+        ensures known { IsKnown result.session fresh_known }
+        ensures lines { result.lines.items ≡ [] }
+    {
         InThreads {
             session: ThreadedSession::new(alloc, seed),
             lines: Vec::new(alloc),
@@ -27,14 +32,22 @@ impl InThreads {
     }
 
     // Takes the lines that have come.
-    fn take_lines(&mut self, alloc: Global) -> Vec<Vec<u8>> {
+    fn take_lines(&mut self, alloc: Global) -> Vec<Vec<u8>>
+        ensures lines { result.items ≡ self.old.lines.items }
+        ensures left { self.new.lines.items ≡ [] }
+        ensures session { self.new.session ≡ self.old.session }
+    {
         mem::replace(&mut self.lines, Vec::new(alloc))
     }
 }
 
 impl Lines for InThreads {
+    ghost use Rattle.script_core.specs.Threaded.{IsKept};
+
     // (a line does not determine the steps of threads)
     ghost stands = { λ _ _. ⊥ };
+
+    ghost keeps = { IsKept };
 
     // Keeps the line until the reader of the script runs it.
     fn line(&mut self, alloc: Global, line: &[u8], _out: &mut String) -> Result<(), Stop> {
@@ -63,9 +76,11 @@ impl Lines for InThreads {
 /// and writes that, behind the frames that were sent if the options ask for them.
 ///
 /// Returns [`Outcome::Ran`] only if [`ThreadedSession::finish`] has merged them and its text was
-/// written. Flushes the output whenever the reader has given all that it has at hand. After a bad
-/// line, and on a failure of memory, reading or writing, reads and writes nothing more. Appends
-/// the fault of a bad line to `advice`, as [`run_script`](crate::run_script).
+/// written, and [`Outcome::Unmerged`] only if it hasn't merged them. Returns [`Outcome::BadLine`]
+/// only of the first line that is bad where those before it have run. Flushes the output whenever
+/// the reader has given all that it has at hand. After a bad line, and on a failure of memory,
+/// reading or writing, reads and writes nothing more. Appends the fault of a bad line to `advice`,
+/// as [`run_script`](crate::run_script).
 pub fn run_threads<M: Machine, R: Read, W: Write>(
     rt: &M,
     alloc: Global,
@@ -74,7 +89,7 @@ pub fn run_threads<M: Machine, R: Read, W: Write>(
     options: &Options,
     advice: &mut String,
 ) -> Outcome
-    ensures { EndsMerged options.now.trace (W.contents writer.new) result }
+    ensures { EndsThreaded options.now.trace (R.remaining reader.old) (W.contents writer.new) result }
 {
     let outcome = run_to_end(rt, alloc, reader, writer, options, advice);
     if outcome == Outcome::Failed {
@@ -94,7 +109,7 @@ fn run_to_end<M: Machine, R: Read, W: Write>(
     options: &Options,
     advice: &mut String,
 ) -> Outcome
-    ensures { EndsMerged options.now.trace (W.contents writer.new) result }
+    ensures { EndsThreaded options.now.trace (R.remaining reader.old) (W.contents writer.new) result }
 {
     let mut script = Script::new(alloc, InThreads::new(alloc, options.seed));
     let outcome = read_all(rt, alloc, &mut script, reader, writer, advice);
@@ -115,7 +130,10 @@ fn read_all<M: Machine, R: Read, W: Write>(
     reader: &mut R,
     writer: &mut W,
     advice: &mut String,
-) -> Outcome {
+) -> Outcome
+    ensures { (from : Known) (input : List ℕ) → Along from input (R.remaining reader.old) script.old
+        → RunsScript from input script.new.session.session result }
+{
     let mut unseen = io::sink();
     for _ in 0..u64::MAX {
         let ended = script.read_on(alloc, reader, &mut unseen);
@@ -137,7 +155,10 @@ fn run_lines<M: Machine, W: Write>(
     script: &mut Script<InThreads>,
     writer: &mut W,
     advice: &mut String,
-) -> Result<(), Outcome> {
+) -> Result<(), Outcome>
+    ensures { (known : Known) (first : ℕ) → IsKnown script.old.session.session known → script.old.number ≡ first + length (kept_lines script.old.session)
+        → script.old.number ≤ 1048577 → RunsLines known first (kept_lines script.old.session) script.old script.new result }
+{
     let lines = script.session.take_lines(alloc);
     let mut number = script.number().saturating_sub(lines.len() as u64);
     for line in &lines {
@@ -167,7 +188,9 @@ fn run_line<M: Machine, W: Write>(
     line: &[u8],
     writer: &mut W,
     advice: &mut String,
-) -> Result<(), Outcome> {
+) -> Result<(), Outcome>
+    ensures { (known : Known) → IsKnown session.old known → RunsLine known line.now number session.new result }
+{
     let mut out = String::new(alloc);
     match session.line(rt, alloc, line, &mut out) {
         Ok(()) => write_bytes(writer, out.as_bytes()),

@@ -1,5 +1,5 @@
 -- The end of a script of nodes in threads: its last lines, and the claim on the nodes' histories.
-use Rattle.std.specs.Prelude.{◌≡◌, Option, None, Some, ℕ, Bool, true, false, ◌==◌, List}
+use Rattle.std.specs.Prelude.{◌≡◌, ◌<◌, Option, None, Some, ℕ, Bool, true, false, ◌==◌, List}
 use Rattle.std.specs.Prelude.{[], ◌++◌, length, Result, Ok, Err, if◌then◌else◌, slice_get}
 use Rattle.std.specs.List.{flat_map}
 use Rattle.cluster_run.specs.Finishing.{IsFinished}
@@ -7,6 +7,9 @@ use Rattle.dist_books.specs.Acting.{Nodes}
 use Rattle.dist_model.specs.Names.{Name}
 use Rattle.dist_model.specs.declared.report.Report.{Report}
 use Rattle.erl_term.specs.declared.refusal.Refusal.{Refusal}
+use Rattle.joined_books.specs.Faults.{IsFault}
+use Rattle.joined_books.specs.declared.error.FinishError.{FinishError}
+use Rattle.joined_books.specs.declared.error.FinishError.TheVariants as faults
 use Rattle.joined_books.specs.declared.trace.Placed.{Placed}
 use Rattle.node_lock.specs.Seen.{BookSeen}
 use Rattle.node_history.specs.declared.entry.Entry.{Entry}
@@ -15,6 +18,8 @@ use Rattle.node_frames.specs.Frames.{Framed}
 use Rattle.script_session.specs.Stage.{sent_in}
 use Rattle.script_texts.specs.Texts.{merged_text}
 use Rattle.script_threads.specs.Standing.{nodes_of}
+use Rattle.script_threads.specs.declared.finishing.Unfinished.{Unfinished}
+use Rattle.script_threads.specs.declared.finishing.Unfinished.TheVariants as unfinished
 use Rattle.script_threads.specs.declared.threads.Cast.{Cast}
 use Rattle.script_threads.specs.declared.threads.Cast.TheVariants as cast
 use Rattle.erl_handshake.specs.declared.setup.Setup.{Setup}
@@ -63,3 +68,25 @@ Tells false trace named old_text new_text = AreMerged trace named old_text new_t
 
 abbrev pub Ends : (trace : Bool) → Cast → (old_text new_text : List ℕ) → Type 0
 Ends trace named old_text new_text = Tells (length (nodes_of named) == 0) trace named old_text new_text
+
+-- ---- an end without a merge
+
+abbrev pub unfinished_by : FinishError → Unfinished
+unfinished_by faults.OutOfMemory = unfinished.OutOfMemory
+unfinished_by _ = unfinished.Unmerged
+
+-- there are nodes, and a book for each; and what is wrong with the books, or with what the script has asked for, is where the fault says
+pub record AreUnmerged (named : Cast) : Type 0 where
+  pub some : 0 < length (nodes_of named)
+  pub books : List BookSeen
+  pub seats : List Seat
+  pub fault : FinishError
+  pub one_each : length books ≡ length (nodes_of named)
+  pub seated : AreSeats named seats
+  pub is : IsFault (nodes_of named) books seats fault
+  pub unmerged : unfinished_by fault ≡ unfinished.Unmerged
+
+-- memory may be wanting at any place
+abbrev pub IsUnfinished : Cast → Unfinished → Type 0
+IsUnfinished named unfinished.OutOfMemory = Unit {0}
+IsUnfinished named unfinished.Unmerged = AreUnmerged named

@@ -1,10 +1,11 @@
 //! The end of a script.
-ghost use Rattle.std.specs.Prelude.{◌≡◌, ◌<◌, ◌++◌, IfOk, OnOk, false, length, string_bytes, true};
+ghost use Rattle.std.specs.Prelude.{◌≡◌, ◌<◌, ◌++◌, IfErr, IfOk, OnOk, false, length, string_bytes, true};
 ghost use Rattle.std.specs.List.{flat_map};
 ghost use Rattle.std.specs.Option.{option_copied};
 ghost use Rattle.script_texts.specs.Texts.{merged_text};
-ghost use Rattle.script_threads.specs.Merged.{AreMerged, Ends, sents_at, sents_with, trace_text};
+ghost use Rattle.script_threads.specs.Merged.{AreMerged, Ends, IsUnfinished, sents_at, sents_with, trace_text, unfinished_by};
 ghost use Rattle.script_threads.specs.Standing.{has_started, is_idle, nodes_of};
+ghost use Rattle.script_threads.specs.declared.finishing.Unfinished.TheVariants as unfinished;
 ghost use Rattle.script_threads.specs.declared.threads.Cast.TheVariants as cast;
 
 use crate::running::{Machine, Running};
@@ -30,12 +31,16 @@ pub enum Unfinished {
 }
 
 impl From<AllocError> for Unfinished {
+    ghost from_gives = { λ _ e. e ≡ unfinished.OutOfMemory };
+
     fn from(_e: AllocError) -> Unfinished {
         Unfinished::OutOfMemory
     }
 }
 
 impl From<FinishError> for Unfinished {
+    ghost from_gives = { λ fault e. e ≡ unfinished_by fault };
+
     fn from(e: FinishError) -> Unfinished {
         match e {
             FinishError::OutOfMemory => Unfinished::OutOfMemory,
@@ -125,6 +130,7 @@ fn finish_running<R: Machine>(
 ) -> Result<(), Unfinished>
     ensures merged { OnOk result (AreMerged trace (cast.Running running) (string_bytes out.old) (string_bytes out.new)) }
     ensures some { 0 < length running.nodes.items }
+    ensures err { IfErr result (IsUnfinished (cast.Running running)) }
 {
     let Running {
         nodes,
@@ -157,7 +163,8 @@ impl ThreadedSession {
     /// sent in the order of the run, if these are asked for. Else nothing is printed.
     ///
     /// # Errors
-    /// [`Unfinished`] tells.
+    /// [`Unfinished`] tells. [`Unfinished::Unmerged`] only where the script has named nodes, and books of
+    /// these don't fit together, or to what its seats have receipts for.
     pub fn finish<R: Machine>(
         self,
         rt: &R,
@@ -165,7 +172,8 @@ impl ThreadedSession {
         trace: bool,
         out: &mut String,
     ) -> Result<(), Unfinished>
-        ensures { OnOk result (Ends trace self.threads.cast (string_bytes out.old) (string_bytes out.new)) }
+        ensures ok { OnOk result (Ends trace self.threads.cast (string_bytes out.old) (string_bytes out.new)) }
+        ensures err { IfErr result (IsUnfinished self.threads.cast) }
     {
         let NodeThreads { cast, .. } = started(rt, alloc, self.threads)?;
         match cast {

@@ -13,9 +13,9 @@ returns-in-Ok-merged-clause-ok g c =
     let trace = c.in-Ok-merged.trace in
     elim c.match-take_books.branch [
       | in-Ok w ↦
-          finished_in trace.entries.items c.args.self.nodes.items c.halt-nodes.result.0.items w.deref-in-Ok.result.now
-          c.take_books.new.books.items w.deref-in-Ok-2.result.now c.args.seats.items w.deref-in-Ok-3.result.now
-          c.halt-nodes.ensures w.deref-in-Ok.ensures.value w.deref-in-Ok-2.ensures.value w.deref-in-Ok-3.ensures.value
+          finished_in trace.entries.items c.args.self.nodes.items c.halt-nodes.result.0.items w.deref.result.now
+          c.take_books.new.books.items w.deref-in-Ok.result.now c.args.seats.items w.deref-in-Ok-2.result.now
+          c.halt-nodes.ensures.nodes w.deref.ensures.value w.deref-in-Ok.ensures.value w.deref-in-Ok-2.ensures.value
           w.merge_books-merged.result trace (sym w.merged-is ∙ c.in-Ok-merged.is) refl
           w.merge_books-merged.ensures.trace w.merge_books-merged.ensures.run w.merge_books-merged.ensures.receipts
       | in-Err w ↦ no_trace FinishError.OutOfMemory trace (sym w.merged-is ∙ c.in-Ok-merged.is)

@@ -3,7 +3,7 @@ use Rattle.script_core.proofs.LineLemmas.{obeys_heeds}
 use Rattle.script_session.specs.Session.{line_does}
 use Rattle.script_core.proofs.lines.SessionLines.line.Goals as goal
 
-pub returns : goal.returns
-returns c = λ state h.
+pub returns-clause-runs : goal.returns-clause-runs
+returns-clause-runs c = λ state h.
     obeys_heeds (line_does state c.args.line.now) c.line.new.self (string_bytes c.args.out.now)
     (string_bytes c.line.new.out) c.line.result (c.line.ensures state h)

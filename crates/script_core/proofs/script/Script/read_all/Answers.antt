@@ -12,7 +12,7 @@ returns-in-Some g c = λ from at.
     for_known (g.R.Read.remaining c.args.reader.now) (λ input. Answers (runs_from from input) held new c.in-Some.outcome) (λ input e.
     subst
     (GoesOn from input (g.R.Read.remaining c.read_on.new.reader) (IsAt g.S.Lines.stands c.read_on.new.self) held new) c.in-Some.is
-    (c.read_on.ensures from input held (c.loop.invariant from input at e)))
+    (c.read_on.ensures.goes from input held (c.loop.invariant from input at e)))
 
 pub returns : goal.returns
 returns g c = λ from at.
