@@ -32,7 +32,6 @@ use Rattle.dist_model.specs.NodeEvents.{Arrive, Call, Dial, Local, Lose, NodeEve
 use Rattle.dist_model.specs.Sides.{TrunkSide, is_losing, is_over}
 use Rattle.dist_model.specs.Taking.{take_item}
 use Rattle.dist_model.specs.Work.{Addressed, Work, at_work, draw, keep_local, post, post_all, put, report, send_on, spelled, to_pid}
-use Rattle.erl_control.specs.Ends.{receiver_of}
 use Rattle.erl_control.specs.declared.signal.Signal.{Signal}
 use Rattle.erl_handshake.specs.declared.message.ShakeMsg.{ShakeMsg}
 use Rattle.erl_names.specs.Ids.{reference_of}
@@ -182,6 +181,7 @@ module _ (l : List Item) where
     end_set = λ p q e o l k. k;
     drew = λ o k. k;
     life_set = λ p l o h k. k;
+    renamed = λ m o h k. k;
     message = λ p m o h k. reports (Effect.Put p m) o (λ t y i q. cc) k;
     reacted = λ p q x o h k. reports (Effect.LinkExit p q x) o (λ t y i q. cc) k;
     finished = finishes;

@@ -1,9 +1,10 @@
 -- What a call or a signal does to each pair of processes.
 use Rattle.std.proofs.Common.{◌<◌, ◌==◌, nat_lt, ◌≡◌, ℕ, ◌+◌, Bool, true, false, cond, not, List, []}
-use Rattle.std.proofs.Common.{◌∷◌, refl, sym, ap, ◌∙◌, subst, arith, ◌&&◌, ◌||◌, Option, Some, None}
+use Rattle.std.proofs.Common.{◌∷◌, refl, sym, ap, ◌∙◌, subst, arith, ◌&&◌, ◌||◌, Option, Some, None, ◌⊎◌, inl, inr}
 use Rattle.erl_names.specs.Draw as kind
 use Rattle.std.proofs.lemmas.Option.{same_Some}
 use Rattle.std.specs.FinMap as fm
+use Rattle.std.specs.Option.{is_some}
 use Rattle.dist_model.proofs.Keys.{pid_total, same_name_is, same_name_refl, same_name_true, same_pid_is}
 use Rattle.dist_model.proofs.Keys.{same_pid_refl, same_pid_true, same_trunk, same_trunk_is, same_trunk_true}
 use Rattle.dist_model.proofs.Moves.{Moves, carries_out, finishes, posts_other, puts, set_life_living, stays, then}
@@ -11,15 +12,17 @@ use Rattle.dist_model.proofs.LinkMoves.{links, unlinks_as}
 use Rattle.dist_model.proofs.Posts.{Homely}
 use Rattle.dist_model.proofs.Views.{over, telling_news, view}
 use Rattle.dist_model.proofs.Truths.{and_second}
-use Rattle.dist_model.specs.Calls.{acting, call, spawn_life, toward, trapping, with_life, without_first}
+use Rattle.dist_model.specs.Calls.{acting, call, giving_up, is_undefined, spawn_life, taking, toward, trapping, with_life, with_names, without_first}
 use Rattle.dist_model.specs.Commands.{Accepts, Outcome, Refuses, with_id}
 use Rattle.dist_model.specs.declared.command.Command.{Command}
+use Rattle.dist_model.specs.declared.report.Answer.{Answer}
 use Rattle.dist_model.specs.Exits.{sent_exit}
 use Rattle.erl_control.specs.Fits.{fits}
 use Rattle.dist_model.specs.Items.{Item, Signalled, news_in, telling}
 use Rattle.dist_model.specs.Linking.{unlink_by}
 use Rattle.dist_model.specs.Monitoring.{demonitor_by, monitor, pid_watch, register, registration_of, unregister, unwatch, watch}
 use Rattle.dist_model.specs.Names.{Name, same_name, same_pid}
+use Rattle.dist_model.specs.Naming.{NameMap, name_of, without_holder}
 use Rattle.dist_model.specs.Node.{Life, Living, Node, end_of, is_living_life, living, is_stranger, reaches, traps_life}
 use Rattle.dist_model.specs.Taking.{take_item}
 use Rattle.dist_model.specs.Work.{Work, at_work, draw, post, post_all, put, set_end, set_life, spelled, to_pid}
@@ -35,7 +38,7 @@ use Rattle.exit_core.specs.Reaction.{reaction}
 use Rattle.link_core.specs.News.{Exited, LinkNews, Signals, noconnection, noproc}
 use Rattle.link_core.specs.declared.end.End.{End}
 use Rattle.link_core.specs.declared.end.LinkSignal.{LinkSignal}
-use Rattle.monitor_core.specs.Monitors.{MonitorMap, RegistrationMap, WatchMap, added, as_watch, is_held, itself}
+use Rattle.monitor_core.specs.Monitors.{RegistrationMap, WatchMap, added, as_watch, is_held, itself}
 use Rattle.std.specs.FinMap.{FinMap}
 use Rattle.erl_names.specs.declared.trunk.TrunkId.{TrunkId}
 use Rattle.link_core.proofs.Kept.{Kept, side_path}
@@ -85,6 +88,21 @@ monitors_move : (o : Work) (references : ℕ) (watches : WatchMap) (registered :
   node = record (o.node) { mint = record (o.node.mint) { references = references }; watches = watches; registered = registered };
 })
 monitors_move o references watches registered = record {
+  sides = refl;
+  dialed = refl;
+  name = refl;
+  keeps = λ n. record { born = n.born; rooted = n.rooted };
+  grows = λ p h. h;
+  draws = omega arith;
+  routed = λ a. a;
+  nevers = λ p h. h;
+  home = λ k h. h;
+  views = λ n b p q c r k. k;
+}
+
+-- registered names alone
+names_move : (m : NameMap) (o : Work) → Moves o (record o { node = record (o.node) { names = m } })
+names_move m o = record {
   sides = refl;
   dialed = refl;
   name = refl;
@@ -377,6 +395,44 @@ acts n p q k h =
     if_cond (living n p) (toward n q k) Refusal.NoSuchProcess (Moves (at_work n))
     (λ l. if_not (same_name q.node n.mint.name && is_stranger n q) k Refusal.Forged (Moves (at_work n)) (h l))
 
+-- ---- registered names
+
+-- a living process that has no name takes one that no process has
+pub record Takes (n : Node) (m : NameMap) : Type 0 where
+  pub name : Name
+  pub process : Pid
+  pub alive : living n process ≡ true
+  pub free : fm.get n.names name ≡ None
+  pub nameless : name_of n.names process ≡ None
+  pub names : m ≡ fm.insert n.names name process
+
+-- so it does, or a process gives its own up
+abbrev pub Renames : Node → NameMap → Type 0
+Renames n m = Takes n m ⊎ ((p : Pid) × (m ≡ without_holder n.names p))
+
+is_none : {A : Type 0} → (v : Option A) → is_some v ≡ false → v ≡ None
+is_none None h = refl
+is_none (Some x) h = cc
+
+module _ (n : Node) (p : Pid) (P : Work → Type 0) (f : (m : NameMap) → Renames n m → P (with_names n m)) where
+  pub registered_goes : (name : Name) → living n p ≡ true
+      → IfGoes (taking n p name (Accepts Answer.Done (with_names n (fm.insert n.names name p)))) P
+  registered_goes name l =
+      if_not (is_undefined name) _ Refusal.BadName P
+      (if_not_known (is_some (fm.get n.names name)) _ Refusal.NameTaken P (λ free.
+      if_not_known (is_some (name_of n.names p)) _ Refusal.HasName P (λ nameless.
+      f (fm.insert n.names name p) (inl (record {
+        name = name;
+        process = p;
+        alive = l;
+        free = is_none (fm.get n.names name) free;
+        nameless = is_none (name_of n.names p) nameless;
+        names = refl;
+      })))))
+
+  pub unregistered_goes : IfGoes (giving_up n p (Accepts Answer.Done (with_names n (without_holder n.names p)))) P
+  unregistered_goes = if_cond (is_some (name_of n.names p)) _ Refusal.NoName P (λ h. f (without_holder n.names p) (inr (p, refl)))
+
 -- whatever a call does, no pair is hurt
 pub calls : (n : Node) (c : Command) → IfGoes (call n c) (Moves (at_work n))
 calls n Command.Spawn = if_drawn (id_of n.mint kind.Pid) _ (Moves (at_work n)) (λ id h.
@@ -413,3 +469,8 @@ calls n (Command.Receive p) =
     (λ l. sets_life n p (without_first (fm.get n.lives p)) (living_without (fm.get n.lives p)))
 calls n (Command.LinksOf p) = if_cond (living n p) _ Refusal.NoSuchProcess (Moves (at_work n)) (λ l. stays (at_work n))
 calls n (Command.IsAlive p) = stays (at_work n)
+calls n (Command.Register p name) = if_cond (living n p) _ Refusal.NoSuchProcess (Moves (at_work n))
+    (λ l. registered_goes n p (Moves (at_work n)) (λ m c. names_move m (at_work n)) name l)
+calls n (Command.Unregister p) = if_cond (living n p) _ Refusal.NoSuchProcess (Moves (at_work n))
+    (λ l. unregistered_goes n p (Moves (at_work n)) (λ m c. names_move m (at_work n)))
+calls n (Command.WhereIs name) = stays (at_work n)

@@ -255,6 +255,7 @@ cleared n c b s r u l = record n {
   mint = record { name = n.mint.name; creation = c; pids = s; references = r; unlink_ids = u };
   up = b;
   lives = fm.empty;
+  names = fm.empty;
   ends = fm.empty;
   watches = fm.empty;
   registered = fm.empty;

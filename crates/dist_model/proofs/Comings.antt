@@ -37,7 +37,6 @@ use Rattle.dist_model.proofs.Told.{Called, CauseOf, Course, Drawn, IsFounded, Le
 use Rattle.dist_model.proofs.Lands.{no_more}
 use Rattle.dist_model.proofs.MonitorMoves.{lives_same, node_aside, turns_aside}
 use Rattle.dist_model.specs.Arrivals.{arrive_at, arrive_fresh, from_peer, handshake_in, is_good, on_up, signal_at, take_local, to_own}
-use Rattle.dist_model.specs.Causes.{TrueCause}
 use Rattle.dist_model.specs.Commands.{Accepts, Outcome}
 use Rattle.dist_model.specs.declared.report.Answer.{Answer}
 use Rattle.dist_model.specs.Dialing.{dial, draw_trunk, has_name, next_trunk}

@@ -75,6 +75,7 @@ module _ (names : List Name) (n : Node) where
     end_set = λ p q e o l k. k;
     drew = λ d o h k. k;
     life_set = λ p l o h k. k;
+    renamed = λ m o h k. k;
     message = λ p m o k. k;
     reacted = λ p q x o k. k;
     finished = λ p x o k. all_posts_keep (λ m. m.cookie) (λ m l. refl) (last_posts p x o) o ∙ k;

@@ -170,6 +170,8 @@ module _ (w : World) (h : History) (x : Name) (n : Node) (hx : node_of w.nodes x
           drew = λ o k. record { truth = a.drew o k.truth; core = b.drew o k.core; home = c.drew o k.home };
           life_set = λ p l o i k.
               record { truth = a.life_set p l o i k.truth; core = b.life_set p l o i k.core; home = c.life_set p l o i k.home };
+          renamed = λ m o i k.
+              record { truth = a.renamed m o i k.truth; core = b.renamed m o i k.core; home = c.renamed m o i k.home };
           message =
               λ p m o i k. record { truth = a.message p m o i k.truth; core = b.message p m o i k.core; home = c.message p m o i k.home };
           reacted = λ p q z o i k.

@@ -19,7 +19,6 @@ use Rattle.dist_model.specs.declared.command.Command.{Command}
 use Rattle.dist_model.specs.declared.report.Answer.{Answer}
 use Rattle.dist_model.specs.Exits.{demonitors, exits, end_process, monitor_exits}
 use Rattle.dist_model.specs.Items.{Item}
-use Rattle.erl_control.specs.Ends.{receiver_of}
 use Rattle.dist_model.specs.Monitoring.{demonitor_by, pid_watch, unwatch, watch}
 use Rattle.dist_model.specs.Names.{Name, same_name, same_pid}
 use Rattle.dist_model.specs.Node.{Node, living, is_stranger, reaches, route, ends_of}
@@ -94,6 +93,7 @@ module _ (n : Node) where
     end_set = λ p q e o l k. record { sides = k.sides; name = k.name; routed = k.routed; words = k.words };
     drew = λ o k. record { sides = k.sides; name = k.name; routed = k.routed; words = k.words };
     life_set = λ p l o h k. record { sides = k.sides; name = k.name; routed = k.routed; words = k.words };
+    renamed = λ m o h k. record { sides = k.sides; name = k.name; routed = k.routed; words = k.words };
     message = λ p m o h k. silent o (put p m o) (Effect.Put p m) refl refl refl refl k;
     reacted = λ p q x o h k. silent o (report (Effect.LinkExit p q x) o) (Effect.LinkExit p q x) refl refl refl refl k;
     finished = sent_finish;

@@ -19,8 +19,7 @@ use Rattle.dist_model.specs.Exits.{buried, demonitors, exit_for, end_process, mo
 use Rattle.dist_model.specs.Items.{news}
 use Rattle.dist_model.specs.Names.{pair_cmp, same_pid}
 use Rattle.dist_model.specs.Node.{Ended, Life, end_of, is_living_life, living, is_stranger, reaches}
-use Rattle.dist_model.specs.Work.{Addressed, Work, post_all, to_pid}
-use Rattle.erl_control.specs.declared.signal.Signal.{Signal}
+use Rattle.dist_model.specs.Work.{Addressed, Work, post_all}
 use Rattle.erl_term.specs.Data.{Data}
 use Rattle.erl_term.specs.declared.term.Pid.{Pid}
 use Rattle.erl_term.specs.declared.term.Reference.{Reference}

@@ -28,7 +28,7 @@ use Rattle.exit_core.specs.Messages.{exit_term}
 use Rattle.dist_model.specs.Monitoring.{registration_of}
 use Rattle.monitor_core.specs.Monitors.{RegistrationMap, WatchMap, watch_of}
 use Rattle.monitor_core.specs.declared.monitor.Target.{Target}
-use Rattle.dist_model.proofs.ExampleWorlds.{node, of_worlds, told_once, world}
+use Rattle.dist_model.proofs.ExampleWorlds.{nameless, node, of_worlds, told_once, world}
 
 module _ (cookie : List ℕ) (own other : ℕ) where
   -- ---- a process is monitored and ends, or is linked and ends
@@ -86,8 +86,8 @@ module _ (cookie : List ℕ) (own other : ℕ) where
     monitor_world_3 = world
         (node cookie first 1 true 1 1 0 1 (lives_of_first_1 cookie own other) fm.empty monitor_watches_of_first_1 fm.empty
         (sides_of_first_3 cookie own other) [])
-        (node cookie second 1 true 1 0 0 0 monitor_lives_of_second_1 (fm.retain_keys fm.empty (λ pair. not (same_pid pair.0 there)))
-        (without_owner fm.empty there) (without_held monitor_registered_of_second_1 there) (sides_of_second_1 cookie own other) [])
+        (nameless there (node cookie second 1 true 1 0 0 0 monitor_lives_of_second_1 (fm.retain_keys fm.empty (λ pair. not (same_pid pair.0 there)))
+        (without_owner fm.empty there) (without_held monitor_registered_of_second_1 there) (sides_of_second_1 cookie own other) []))
         monitor_lists_3
 
     monitor_step_2 : (step monitor_world_2 (Call second (Command.ExitSelf there reason))).world ≡ monitor_world_3
@@ -128,9 +128,9 @@ module _ (cookie : List ℕ) (own other : ℕ) where
     exit_world_1 = world
         (node cookie first 1 true 1 0 0 1 (lives_of_first_1 cookie own other) (ends_of_first_0 cookie own other) fm.empty fm.empty
         (sides_of_first_3 cookie own other) [])
-        (node cookie second 1 true 1 0 0 0 exit_lives_of_second_1
+        (nameless there (node cookie second 1 true 1 0 0 0 exit_lives_of_second_1
         (fm.retain_keys (ends_of_second_0 cookie own other) (λ pair. not (same_pid pair.0 there))) (without_owner fm.empty there)
-        (without_held fm.empty there) (sides_of_second_1 cookie own other) [])
+        (without_held fm.empty there) (sides_of_second_1 cookie own other) []))
         exit_lists_1
 
     exit_step_0 : (step exit_world_0 (Call second (Command.ExitSelf there reason))).world ≡ exit_world_1

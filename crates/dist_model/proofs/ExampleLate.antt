@@ -27,7 +27,7 @@ use Rattle.link_core.specs.declared.end.End.{End}
 use Rattle.dist_model.specs.Monitoring.{registration_of}
 use Rattle.monitor_core.specs.Monitors.{RegistrationMap, WatchMap, watch_of}
 use Rattle.monitor_core.specs.declared.monitor.Target.{Target}
-use Rattle.dist_model.proofs.ExampleWorlds.{node, of_worlds, world}
+use Rattle.dist_model.proofs.ExampleWorlds.{nameless, node, of_worlds, world}
 
 module _ (cookie : List ℕ) where
   module _ (reason : Data) (fitting : fits reason ≡ true) where
@@ -113,9 +113,9 @@ module _ (cookie : List ℕ) where
 
     abbrev late_exit_world_6 : World
     late_exit_world_6 = world
-        (node cookie first 1 true 2 0 1 0 late_exit_lives_of_first_3 late_exit_ends_of_first_4 late_exit_watches_of_first_1
+        (nameless beside (node cookie first 1 true 2 0 1 0 late_exit_lives_of_first_3 late_exit_ends_of_first_4 late_exit_watches_of_first_1
         late_exit_registered_of_first_1 fm.empty
-        (Signalled (Signal.UnlinkId 1 here beside) false ∷ Signalled (Signal.Exit beside here reason) false ∷ []))
+        (Signalled (Signal.UnlinkId 1 here beside) false ∷ Signalled (Signal.Exit beside here reason) false ∷ [])))
         (node cookie second 1 true 0 0 0 0 fm.empty fm.empty fm.empty fm.empty fm.empty [])
         fm.empty
 
@@ -124,9 +124,9 @@ module _ (cookie : List ℕ) where
 
     abbrev late_exit_world_7 : World
     late_exit_world_7 = world
-        (node cookie first 1 true 2 0 1 0 late_exit_lives_of_first_3 late_exit_ends_of_first_4 late_exit_watches_of_first_1
+        (nameless beside (node cookie first 1 true 2 0 1 0 late_exit_lives_of_first_3 late_exit_ends_of_first_4 late_exit_watches_of_first_1
         late_exit_registered_of_first_1 fm.empty
-        (Signalled (Signal.Exit beside here reason) false ∷ Signalled (Signal.UnlinkIdAck 1 beside here) false ∷ []))
+        (Signalled (Signal.Exit beside here reason) false ∷ Signalled (Signal.UnlinkIdAck 1 beside here) false ∷ [])))
         (node cookie second 1 true 0 0 0 0 fm.empty fm.empty fm.empty fm.empty fm.empty [])
         fm.empty
 
@@ -207,8 +207,8 @@ module _ (cookie : List ℕ) where
 
     abbrev dead_partner_world_4 : World
     dead_partner_world_4 = world
-        (node cookie first 1 true 2 0 0 0 dead_partner_lives_of_first_4 dead_partner_ends_of_first_1 dead_partner_watches_of_first_1
-        dead_partner_registered_of_first_1 fm.empty [])
+        (nameless beside (node cookie first 1 true 2 0 0 0 dead_partner_lives_of_first_4 dead_partner_ends_of_first_1 dead_partner_watches_of_first_1
+        dead_partner_registered_of_first_1 fm.empty []))
         (node cookie second 1 true 0 0 0 0 fm.empty fm.empty fm.empty fm.empty fm.empty [])
         fm.empty
 
@@ -220,8 +220,8 @@ module _ (cookie : List ℕ) where
 
     abbrev dead_partner_world_5 : World
     dead_partner_world_5 = world
-        (node cookie first 1 true 2 0 0 0 dead_partner_lives_of_first_4 dead_partner_ends_of_first_2 dead_partner_watches_of_first_1
-        dead_partner_registered_of_first_1 fm.empty (Signalled (Signal.Link here beside) false ∷ []))
+        (nameless beside (node cookie first 1 true 2 0 0 0 dead_partner_lives_of_first_4 dead_partner_ends_of_first_2 dead_partner_watches_of_first_1
+        dead_partner_registered_of_first_1 fm.empty (Signalled (Signal.Link here beside) false ∷ [])))
         (node cookie second 1 true 0 0 0 0 fm.empty fm.empty fm.empty fm.empty fm.empty [])
         fm.empty
 
@@ -230,8 +230,8 @@ module _ (cookie : List ℕ) where
 
     abbrev dead_partner_world_6 : World
     dead_partner_world_6 = world
-        (node cookie first 1 true 2 0 0 0 dead_partner_lives_of_first_4 dead_partner_ends_of_first_2 dead_partner_watches_of_first_1
-        dead_partner_registered_of_first_1 fm.empty (Signalled (Signal.Exit beside here noproc) false ∷ []))
+        (nameless beside (node cookie first 1 true 2 0 0 0 dead_partner_lives_of_first_4 dead_partner_ends_of_first_2 dead_partner_watches_of_first_1
+        dead_partner_registered_of_first_1 fm.empty (Signalled (Signal.Exit beside here noproc) false ∷ [])))
         (node cookie second 1 true 0 0 0 0 fm.empty fm.empty fm.empty fm.empty fm.empty [])
         fm.empty
 
@@ -323,8 +323,8 @@ module _ (cookie : List ℕ) where
 
     abbrev late_down_world_5 : World
     late_down_world_5 = world
-        (node cookie first 1 true 2 1 0 0 late_down_lives_of_first_3 late_down_ends_of_first_1 late_down_watches_of_first_2
-        late_down_registered_of_first_2 fm.empty (Signalled (Signal.MonitorExit beside here reference reason) false ∷ []))
+        (nameless beside (node cookie first 1 true 2 1 0 0 late_down_lives_of_first_3 late_down_ends_of_first_1 late_down_watches_of_first_2
+        late_down_registered_of_first_2 fm.empty (Signalled (Signal.MonitorExit beside here reference reason) false ∷ [])))
         (node cookie second 1 true 0 0 0 0 fm.empty fm.empty fm.empty fm.empty fm.empty [])
         fm.empty
 
@@ -336,9 +336,9 @@ module _ (cookie : List ℕ) where
 
     abbrev late_down_world_6 : World
     late_down_world_6 = world
-        (node cookie first 1 true 2 1 0 0 late_down_lives_of_first_3 late_down_ends_of_first_1 late_down_watches_of_first_3
+        (nameless beside (node cookie first 1 true 2 1 0 0 late_down_lives_of_first_3 late_down_ends_of_first_1 late_down_watches_of_first_3
         late_down_registered_of_first_2 fm.empty
-        (Signalled (Signal.MonitorExit beside here reference reason) false ∷ Signalled (Signal.Demonitor here beside reference) false ∷ []))
+        (Signalled (Signal.MonitorExit beside here reference reason) false ∷ Signalled (Signal.Demonitor here beside reference) false ∷ [])))
         (node cookie second 1 true 0 0 0 0 fm.empty fm.empty fm.empty fm.empty fm.empty [])
         fm.empty
 

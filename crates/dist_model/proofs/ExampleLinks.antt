@@ -44,6 +44,7 @@ module _ (cookie : List ℕ) (own other : ℕ) where
     up = true;
     dialed = dialed;
     lives = lives;
+    names = fm.empty;
     ends = ends;
     watches = fm.empty;
     registered = fm.empty;

@@ -24,8 +24,7 @@ use Rattle.erl_handshake.specs.declared.message.ShakeMsg.{ShakeMsg}
 use Rattle.erl_handshake.specs.declared.status.Status.{Status}
 use Rattle.erl_names.specs.Order.{trunk_cmp}
 use Rattle.erl_term.specs.Order.{pid_cmp}
-use Rattle.dist_model.specs.Monitoring.{registration_of}
-use Rattle.monitor_core.specs.Monitors.{RegistrationMap, WatchMap, watch_of}
+use Rattle.monitor_core.specs.Monitors.{WatchMap, watch_of}
 use Rattle.monitor_core.specs.declared.monitor.Target.{Target}
 use Rattle.dist_model.proofs.ExampleWorlds.{node, of_worlds, told_once, world}
 use Rattle.dist_model.proofs.ExampleLinks.{plainly}

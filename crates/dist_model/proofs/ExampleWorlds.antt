@@ -15,6 +15,7 @@ use Rattle.dist_model.specs.Fates.{DownOnce}
 use Rattle.dist_model.specs.Histories.{history, told}
 use Rattle.dist_model.specs.Items.{Item}
 use Rattle.dist_model.specs.Names.{Name, pair_cmp, place_cmp, same_pid}
+use Rattle.dist_model.specs.Naming.{without_holder}
 use Rattle.dist_model.specs.Node.{Life, Node}
 use Rattle.dist_model.specs.Runs.{opening, reports_of, run}
 use Rattle.dist_model.specs.Schedules.{first, second}
@@ -26,7 +27,6 @@ use Rattle.erl_term.specs.declared.term.Pid.{Pid}
 use Rattle.erl_term.specs.declared.term.Reference.{Reference}
 use Rattle.link_core.specs.declared.end.End.{End}
 use Rattle.monitor_core.specs.Monitors.{MonitorMap, RegistrationMap, WatchMap}
-use Rattle.monitor_core.specs.declared.monitor.Registration.{Registration}
 use Rattle.monitor_core.specs.declared.monitor.Watch.{Watch}
 use Rattle.erl_handshake.specs.declared.setup.Setup.{Setup}
 use Rattle.erl_handshake.specs.Flags.{mandatory}
@@ -84,12 +84,17 @@ node cookie name creation up pids references unlinks dialed lives ends watches r
   up = up;
   dialed = dialed;
   lives = lives;
+  names = fm.empty;
   ends = ends;
   watches = watches;
   registered = registered;
   sides = sides;
   local = local;
 }
+
+-- the node, once a process that had no name has ended
+abbrev pub nameless : Pid → Node → Node
+nameless p n = record n { names = without_holder fm.empty p }
 
 abbrev pub world : Node → Node → FinMap place_cmp (List Item) → World
 world a b lists = record { names = first ∷ second ∷ []; nodes = a ∷ b ∷ []; lists = lists }

@@ -467,6 +467,7 @@ module _ (n : Node) (Old : Pid → Data → Type 0) (Ok : Pid → Pid → Data �
     end_set = λ p q e o l k. true_node o ((set_end p q e o).node) refl refl refl k;
     drew = λ o k. true_node o ((draw kind.UnlinkId o).node) refl refl refl k;
     life_set = λ p l o h k. true_node o (record (o.node) { lives = set_life o.node.lives p l }) refl refl refl k;
+    renamed = λ m o h k. true_node o (record (o.node) { names = m }) refl refl refl k;
     message = λ p m o h k. true_put p m o k;
     reacted = λ p q x o h k. true_reported p q x o h k;
     finished = λ p x o k. true_finish p x o k;

@@ -11,7 +11,6 @@ use Rattle.dist_model.specs.Causes.{Reacts}
 use Rattle.dist_model.proofs.LastSignals.{exits_in}
 use Rattle.dist_model.specs.Exits.{carry_out, demonitors, end_process, link_exit, linked_exit, monitor_exits, sent_exit}
 use Rattle.dist_model.specs.Items.{Item, Signalled}
-use Rattle.erl_control.specs.Ends.{receiver_of}
 use Rattle.dist_model.specs.Linking.{exit_follows, take_link, take_link_by}
 use Rattle.dist_model.specs.Monitoring.{register, unregister, unwatch}
 use Rattle.dist_model.specs.Names.{Name, same_name, same_pid}

@@ -140,6 +140,7 @@ module _ (n : Node) (P : Pid → Type 0) where
     end_set = λ p q e o l k. record { local = k.local; name = k.name };
     drew = λ o k. record { local = k.local; name = k.name };
     life_set = λ p l o h k. record { local = k.local; name = k.name };
+    renamed = λ m o h k. record { local = k.local; name = k.name };
     message = λ p m o h k. record { local = k.local; name = k.name };
     reacted = λ p q x o h k. record { local = k.local; name = k.name };
     finished = homed_finish;

@@ -22,7 +22,6 @@ use Rattle.dist_model.specs.Exits.{end_process}
 use Rattle.dist_model.specs.Handshake.{identity, set_state, with_side, write}
 use Rattle.dist_model.specs.Incarnations.{started, stopped}
 use Rattle.dist_model.specs.Items.{Handshake, Item}
-use Rattle.erl_control.specs.Ends.{receiver_of}
 use Rattle.dist_model.specs.Keeping.{Bearings, Comes, Dials, Towards}
 use Rattle.dist_model.specs.Names.{Name, same_name}
 use Rattle.dist_model.specs.Node.{Node, route}
@@ -31,7 +30,6 @@ use Rattle.dist_model.specs.Sides.{Accepting, AwaitsStatus, Gone, Losing, TrunkS
 use Rattle.dist_model.specs.Work.{Addressed, Work, at_work, keep_local, post, post_all, post_to, put, report, send_on, spelled}
 use Rattle.dist_model.specs.declared.report.Answer.{Answer}
 use Rattle.dist_model.specs.declared.report.Effect.{Effect}
-use Rattle.erl_control.specs.declared.signal.Signal.{Signal}
 use Rattle.erl_handshake.specs.Roles.{send_name}
 use Rattle.erl_handshake.specs.declared.message.ShakeMsg.{ShakeMsg}
 use Rattle.erl_names.specs.Minted.{Minted, drawn}
@@ -152,6 +150,7 @@ module _ (n : Node) (e : NodeEvent) where
     end_set = λ p q v o l k. within o _ refl refl k;
     drew = λ d o h k. within o _ (drawn_name o.node.mint d) refl k;
     life_set = λ p l o h k. within o _ refl refl k;
+    renamed = λ m o h k. within o _ refl refl k;
     message = puts;
     reacted = λ p q x o k. silent (Effect.LinkExit p q x) o (λ t y i z. cc) k;
     finished = finishes;

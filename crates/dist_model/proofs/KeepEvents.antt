@@ -19,7 +19,6 @@ use Rattle.dist_model.specs.Dialing.{dial, draw_trunk, has_name, next_trunk}
 use Rattle.dist_model.specs.Handshake.{identity, set_state, with_side, write}
 use Rattle.dist_model.specs.Incarnations.{started, stopped}
 use Rattle.dist_model.specs.Items.{Item}
-use Rattle.erl_control.specs.Ends.{receiver_of}
 use Rattle.dist_model.specs.Keeping.{Towards}
 use Rattle.dist_model.specs.Losses.{any_side, least_record, sweep_by, sweep_record}
 use Rattle.dist_model.specs.Names.{Name, same_name}
@@ -45,6 +44,7 @@ outer_parts P = record {
   end_set = λ p q e o l k. k;
   drew = λ d o h k. k;
   life_set = λ p l o h k. k;
+  renamed = λ m o h k. k;
   message = λ p m o k. k;
   reacted = λ p q x o k. k;
   finished = λ p x o k. along (all_posts_keep (λ m. m.sides) (λ m l. refl) (last_posts p x o) o)

@@ -3,7 +3,7 @@ use Rattle.erl_names.specs.Draw as kind
 use Rattle.erl_names.specs.Draw.{Draw}
 use Rattle.std.proofs.Common.{◌≡◌, true, ◌⊎◌, Option, Some, None, subst, sym}
 use Rattle.std.specs.FinMap as fm
-use Rattle.dist_model.proofs.Calls.{IfGoes, if_cond, if_drawn}
+use Rattle.dist_model.proofs.Calls.{IfGoes, Renames, if_cond, if_drawn}
 use Rattle.dist_model.proofs.Entries.{registered_found, watch_found}
 use Rattle.dist_model.proofs.Parts.{Closed, Rules, acts_kept, call_kept, cond_kept, item_kept, link_swept}
 use Rattle.dist_model.proofs.Records.{least_as}
@@ -14,6 +14,7 @@ use Rattle.dist_model.specs.Items.{Item}
 use Rattle.dist_model.specs.Losses.{least_record, link_to, sweep_record}
 use Rattle.dist_model.specs.Monitoring.{demonitor_by, pid_watch, register, unregister, unwatch, watch}
 use Rattle.dist_model.specs.Names.{Name, same_pid}
+use Rattle.dist_model.specs.Naming.{NameMap}
 use Rattle.dist_model.specs.Node.{Life, Node, is_living_life, living, reaches}
 use Rattle.dist_model.specs.Taking.{take_item}
 use Rattle.dist_model.specs.Work.{Addressed, Work, at_work, draw, post, post_all, put, report, set_end, set_life, to_pid}
@@ -40,6 +41,7 @@ pub record Parts (X : Work → Type 0) : Type 0 where
   pub drew : (d : Draw) (o : Work) → (d ≡ kind.Pid → ⊥) → X o → X (draw d o)
   pub life_set : (p : Pid) (l : Option Life) (o : Work) → is_living_life l ≡ living o.node p → X o
       → X (record o { node = record (o.node) { lives = set_life o.node.lives p l } })
+  pub renamed : (m : NameMap) (o : Work) → Renames o.node m → X o → X (record o { node = record (o.node) { names = m } })
   pub message : (p : Pid) (m : Data) (o : Work) → X o → X (put p m o)
   pub reacted : (p q : Pid) (x : Data) (o : Work) → X o → X (report (Effect.LinkExit p q x) o)
   pub finished : (p : Pid) (x : Data) (o : Work) → X o → X (end_process p x o)
@@ -65,6 +67,7 @@ module _ (X : Work → Type 0) (c : Parts X) where
     end_set = c.end_set;
     drew = λ o k. c.drew kind.UnlinkId o (λ e. cc) k;
     life_set = c.life_set;
+    renamed = c.renamed;
     message = λ p m o h k. c.message p m o k;
     reacted = λ p q x o h k. c.reacted p q x o k;
     finished = c.finished;

@@ -80,6 +80,8 @@ steady_of n k a = record {
   ends = a.ends;
   owners = a.owners;
   bound = a.bound;
+  holders = a.holders;
+  one_name = a.one_name;
 }
   where
     pick : (t u : TrunkId) (s v : TrunkSide) → (beside s.state v.state ≡ true → ⊥) → (t ≡ u) ⊎ (beside s.state v.state ≡ true) → t ≡ u
@@ -130,7 +132,7 @@ abbrev AnyNew : TrunkId → Name → Type 0
 AnyNew t y = Unit {0}
 
 aside : (t : TrunkId) (s : TrunkSide) (o : Work) → Y o → Y (with_side t s o)
-aside t s o k = alive_aside o.node ((with_side t s o).node) refl refl refl refl k
+aside t s o k = alive_aside o.node ((with_side t s o).node) refl refl refl refl refl k
 
 turned : (t : TrunkId) (s : TrunkSide) (o : Work) → Turned o.node t s → Roomy o.node t s → Y o → Y (with_side t s o)
 turned t s o c r k = aside t s o k
@@ -148,20 +150,21 @@ alive_kept names n e k = at_node_keeps AnyNew Y alive_parts turned wrote opens n
     rest : (d : NodeEvent) → Rest AnyNew Y alive_parts turned wrote opens names n k d
     rest (Call d) = λ s p. alive_spawned n p k
     rest (Arrive t (Some i) w) = λ at. fresh_kept AnyNew Y turned wrote t tt (handshake_in i) w (at_work n) at k
-    rest Local = λ l. alive_aside n (record n { local = l }) refl refl refl refl k
+    rest Local = λ l. alive_aside n (record n { local = l }) refl refl refl refl refl k
     rest (Dial y w) = dial_goes Y names n y w (λ i j.
         aside (next_trunk n) (record { peer = y; introduction = untold; state = AwaitsStatus w }) (at_work (draw_trunk n))
-        (alive_aside n (draw_trunk n) refl refl refl refl k))
-    rest Stop = all_alive (stopped n) refl refl refl
-    rest Start = all_alive (started n) refl refl refl
+        (alive_aside n (draw_trunk n) refl refl refl refl refl k))
+    rest Stop = all_alive (stopped n) refl refl refl refl
+    rest Start = all_alive (started n) refl refl refl refl
     rest _ = tt
 
 pub steady_kept : (names : List Name) (n : Node) (e : NodeEvent) (a : Answer) (o : Work) → Steady n → at_node names n e ≡ Accepts a o
     → Steady o.node
 steady_kept names n e a o k h = steady_of o.node
     (if_accepted KeepSingle.X (at_node names n e) a o h (single_kept names n e (single_of n k)))
-    (if_accepted Y (at_node names n e) a o h (alive_kept names n e (record { ends = k.ends; owners = k.owners; bound = k.bound })))
+    (if_accepted Y (at_node names n e) a o h (alive_kept names n e (record
+    { ends = k.ends; owners = k.owners; bound = k.bound; holders = k.holders; one_name = k.one_name })))
 
 pub steady_new : (x : Name) (setup : Setup) → Steady (new_node x setup)
 steady_new x setup = steady_of (new_node x setup)
-    (λ t u s v hs hv p gs gv. absurd (none-some s (sym (fm.get-empty trunk_cmp t) ∙ hs))) (all_alive (new_node x setup) refl refl refl)
+    (λ t u s v hs hv p gs gv. absurd (none-some s (sym (fm.get-empty trunk_cmp t) ∙ hs))) (all_alive (new_node x setup) refl refl refl refl)

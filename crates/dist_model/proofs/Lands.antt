@@ -14,10 +14,9 @@ use Rattle.dist_model.proofs.Trunks.{has}
 use Rattle.dist_model.specs.Downs.{Down, down_in, downs_in, same_reference}
 use Rattle.dist_model.specs.Exits.{monitor_exits}
 use Rattle.dist_model.specs.Items.{Item, Signalled, has_reason}
-use Rattle.erl_control.specs.Ends.{receiver_of}
 use Rattle.dist_model.specs.Names.{Name, same_name, same_pid}
 use Rattle.dist_model.specs.Node.{Node, route, route_in, payload_to}
-use Rattle.dist_model.specs.Work.{Addressed, Work, keep_local, post, post_all, post_to, send_on, spelled, to_pid}
+use Rattle.dist_model.specs.Work.{Addressed, Work, keep_local, post, post_all, post_to, send_on, spelled}
 use Rattle.dist_model.specs.declared.report.Effect.{Effect}
 use Rattle.erl_control.specs.declared.signal.Signal.{Signal}
 use Rattle.erl_names.specs.declared.trunk.TrunkId.{TrunkId}

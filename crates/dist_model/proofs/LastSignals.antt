@@ -4,7 +4,6 @@ use Rattle.dist_model.specs.Work.{Addressed}
 use Rattle.dist_model.specs.Exits.{exit_for, exits}
 use Rattle.dist_model.specs.Names.{same_pid}
 use Rattle.dist_model.specs.Node.{links_in}
-use Rattle.erl_control.specs.declared.signal.Signal.{Signal}
 use Rattle.erl_term.specs.Data.{Data}
 use Rattle.erl_term.specs.declared.term.Pid.{Pid}
 use Rattle.link_core.specs.declared.end.End.{End}

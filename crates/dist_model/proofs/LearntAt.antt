@@ -24,7 +24,6 @@ use Rattle.dist_model.specs.Dialing.{draw_trunk, next_trunk}
 use Rattle.dist_model.specs.Exits.{end_process}
 use Rattle.dist_model.specs.Handshake.{identity, with_side, write}
 use Rattle.dist_model.specs.Items.{Handshake, Item, Signalled, has_reason}
-use Rattle.erl_control.specs.Ends.{receiver_of}
 use Rattle.dist_model.specs.Losses.{any_side, least_record, sweep_by, sweep_record}
 use Rattle.dist_model.specs.Names.{Name, same_name}
 use Rattle.dist_model.specs.Node.{Node, route, payload_to}
@@ -136,6 +135,7 @@ module _ (n : Node) (e : NodeEvent) where
     end_set = λ p q v o l k. within o _ refl refl k;
     drew = λ d o h k. within o _ (ap (λ c. introduction_by c o.node.flags) (drawn_creation o.node.mint d)) refl k;
     life_set = λ p l o h k. within o _ refl refl k;
+    renamed = λ m o h k. within o _ refl refl k;
     message = puts;
     reacted = λ p q x o k. reports (Effect.LinkExit p q x) o (λ t y m h. cc) k;
     finished = finishes;

@@ -88,6 +88,7 @@ pub mod DueFirst
 pub mod Sendable
 -- 9. Which processes a node keeps, and in what order its own list grows.
 pub mod Peopled
+pub mod Named
 pub mod InOrder
 -- 10. Who is connected has shown that it knows the cookie.
 pub mod Shown

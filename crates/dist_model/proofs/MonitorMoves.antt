@@ -24,14 +24,12 @@ use Rattle.dist_model.proofs.EndOfProcess.{is_living_kept, is_living_cond}
 use Rattle.dist_model.specs.Exits.{buried, demonitors, end_process, is_owned, is_bound, monitor_exits}
 use Rattle.dist_model.specs.Handshake.{with_side, write}
 use Rattle.dist_model.specs.Items.{Handshake, Item}
-use Rattle.erl_control.specs.Ends.{receiver_of}
 use Rattle.dist_model.specs.Monitoring.{register, unregister, unwatch}
 use Rattle.dist_model.specs.Names.{Name, same_pid}
 use Rattle.dist_model.specs.Node.{Ended, Life, Node, is_living_life, living}
 use Rattle.dist_model.specs.Sides.{TrunkSide}
 use Rattle.dist_model.specs.Work.{Addressed, Work, delivered, draw, post, post_all, put, report, set_end, set_life, spelled}
 use Rattle.dist_model.specs.declared.report.Effect.{Effect}
-use Rattle.erl_control.specs.declared.signal.Signal.{Signal}
 use Rattle.erl_names.specs.declared.trunk.TrunkId.{TrunkId}
 use Rattle.erl_term.specs.Data.{Data}
 use Rattle.erl_term.specs.declared.term.Pid.{Pid}
@@ -448,6 +446,8 @@ module _ (n : Node) (Tells : Reference → Watch → Data → Type 0) (Joins : R
     life_set = λ p l o h k. core_aside o (record o { node = record (o.node) { lives = set_life o.node.lives p l } })
         (node_aside o (record (o.node) { lives = set_life o.node.lives p l }) refl refl refl (lives_same p l o h) refl refl refl refl)
         refl k;
+    renamed = λ m o h k. core_aside o (record o { node = record (o.node) { names = m } })
+        (node_aside o (record (o.node) { names = m }) refl refl refl (λ z. refl) refl refl refl refl) refl k;
     message = λ p m o h k. core_aside o (put p m o) (put_aside p m o h) refl k;
     reacted = λ p q x o h k. core_aside o (report (Effect.LinkExit p q x) o)
         (effects_aside o o.node (Effect.LinkExit p q x ∷ []) (λ r. refl) refl refl refl (λ z. refl) refl refl refl refl refl) refl k;

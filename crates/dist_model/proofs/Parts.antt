@@ -6,7 +6,7 @@ use Rattle.std.specs.Prelude.{codes}
 use Rattle.std.specs.FinMap as fm
 use Rattle.std.proofs.lemmas.Option.{same_Some}
 use Rattle.dist_model.proofs.Seen.{replies}
-use Rattle.dist_model.proofs.Calls.{IfGoes, if_cond, if_drawn, if_not, living_trapping, living_without}
+use Rattle.dist_model.proofs.Calls.{IfGoes, Renames, if_cond, if_drawn, if_not, living_trapping, living_without, registered_goes, unregistered_goes}
 use Rattle.dist_model.proofs.Keys.{same_pid_true}
 use Rattle.dist_model.specs.Calls.{acting, call, spawn_life, toward, trapping, without_first}
 use Rattle.dist_model.specs.Commands.{Outcome}
@@ -20,6 +20,7 @@ use Rattle.dist_model.proofs.Records.{sweep_link, sweep_registered, sweep_watch}
 use Rattle.dist_model.specs.Losses.{registered_by, sweep_end, watch_to}
 use Rattle.dist_model.specs.Monitoring.{pid_watch, register, registration_of, unregister, unwatch}
 use Rattle.dist_model.specs.Names.{Name, same_name, same_pid}
+use Rattle.dist_model.specs.Naming.{NameMap}
 use Rattle.dist_model.specs.Node.{Life, Node, end_of, is_living_life, living, is_stranger, reaches, traps_life}
 use Rattle.dist_model.specs.Taking.{take_item}
 use Rattle.dist_model.specs.Work.{Addressed, Work, at_work, draw, post, post_all, put, report, set_end, set_life, to_pid}
@@ -69,6 +70,7 @@ pub record Closed (rules : Rules) (X : Work → Type 0) : Type 0 where
   pub drew : (o : Work) → X o → X (draw kind.UnlinkId o)
   pub life_set : (p : Pid) (l : Option Life) (o : Work) → is_living_life l ≡ living o.node p → X o
       → X (record o { node = record (o.node) { lives = set_life o.node.lives p l } })
+  pub renamed : (m : NameMap) (o : Work) → Renames o.node m → X o → X (record o { node = record (o.node) { names = m } })
   pub message : (p : Pid) (m : Data) (o : Work) → ((r : Reference) → down_in r p m ≡ []) → X o → X (put p m o)
   pub reacted : (p q : Pid) (x : Data) (o : Work) → rules.Reacts p q x → X o → X (report (Effect.LinkExit p q x) o)
   pub finished : (p : Pid) (x : Data) (o : Work) → X o → X (end_process p x o)
@@ -251,6 +253,11 @@ module _ (rules : Rules) (X : Work → Type 0) (c : Closed rules X) where
         (λ l. c.life_set p (without_first (fm.get n.lives p)) (at_work n) (living_without (fm.get n.lives p)) k)
     call_kept (Command.LinksOf p) a s own = if_cond (living n p) _ Refusal.NoSuchProcess X (λ l. k)
     call_kept (Command.IsAlive p) a s own = k
+    call_kept (Command.Register p name) a s own = if_cond (living n p) _ Refusal.NoSuchProcess X
+        (λ l. registered_goes n p X (λ m r. c.renamed m (at_work n) r k) name l)
+    call_kept (Command.Unregister p) a s own = if_cond (living n p) _ Refusal.NoSuchProcess X
+        (λ l. unregistered_goes n p X (λ m r. c.renamed m (at_work n) r k))
+    call_kept (Command.WhereIs name) a s own = k
 
   -- a sweep of records towards y
   end_swept : (e : End) (p q : Pid) (o : Work) → (e ≡ End.Active → rules.Reacts p q noconnection) → X o → X (sweep_end e p q o)

@@ -33,7 +33,6 @@ use Rattle.dist_model.specs.Exits.{demonitors, end_process, monitor_exits}
 use Rattle.dist_model.specs.Handshake.{set_state, with_side, write}
 use Rattle.dist_model.specs.Incarnations.{start, started, stop, stopped}
 use Rattle.dist_model.specs.Items.{Item}
-use Rattle.erl_control.specs.Ends.{receiver_of}
 use Rattle.dist_model.proofs.Records.{has_records}
 use Rattle.dist_model.proofs.Truths.{not_both}
 use Rattle.dist_model.proofs.KeepParts.{Parts, call_keeps, item_keeps, record_keeps}
@@ -45,7 +44,6 @@ use Rattle.dist_model.specs.Sides.{in_state, Accepting, Gone, Parked, State, Tru
 use Rattle.dist_model.specs.Work.{Addressed, Work, at_work, delivered, draw, keep_local, post, post_all, post_to, put, send_on, set_life, spelled}
 use Rattle.dist_model.specs.World.{Arrive, Call, Dial, Event, Local, Lose, Report, Start, Stepped}
 use Rattle.dist_model.specs.World.{Stop, Sweep, World, came_of, node_name, node_of, set_node, step_at}
-use Rattle.erl_control.specs.declared.signal.Signal.{Signal}
 use Rattle.erl_handshake.specs.declared.message.ShakeMsg.{ShakeMsg}
 use Rattle.erl_names.specs.Ids.{pid_of}
 use Rattle.erl_names.specs.Minted.{id_of}
@@ -59,7 +57,8 @@ use Rattle.erl_handshake.specs.declared.setup.Setup.{Setup}
 pub record Peopled (n : Node) : Type 0 where
   pub alive : (p : Pid) → living n p ≡ true → (n.up ≡ true) × (p.creation ≡ n.mint.creation)
   pub kept : (p : Pid) → n.up ≡ true → p.creation ≡ n.mint.creation → is_stranger n p ≡ false → is_some (fm.get n.lives p) ≡ true
-  pub down : n.up ≡ false → (n.lives ≡ fm.empty) × (n.ends ≡ fm.empty) × (n.watches ≡ fm.empty) × (n.registered ≡ fm.empty)
+  pub down : n.up ≡ false
+      → (n.lives ≡ fm.empty) × (n.names ≡ fm.empty) × (n.ends ≡ fm.empty) × (n.watches ≡ fm.empty) × (n.registered ≡ fm.empty)
 
 -- what becomes of a node's processes where none is spawned: those that it keeps it goes on to keep, and none comes to life;
 -- and its own list goes on from l
@@ -176,6 +175,7 @@ module _ (n : Node) (l : List Item) where
     end_set = λ p q e o l k. aside o.node _ refl refl refl refl refl (no_more o.node.local) k;
     drew = drawn;
     life_set = lived;
+    renamed = λ m o h k. aside o.node _ refl refl refl refl refl (no_more o.node.local) k;
     message = putted;
     reacted = λ p q x o k. k;
     finished = finished;
@@ -323,7 +323,7 @@ stopped_peopled n = record {
   alive = λ p l. absurd (nobody (stopped n) p refl l);
   kept = λ p h c b. cc;
   down = λ h.
-      (refl, refl, refl, refl);
+      (refl, refl, refl, refl, refl);
 }
 
 pub started_peopled : (n : Node) → Peopled (started n)

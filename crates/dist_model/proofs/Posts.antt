@@ -17,7 +17,7 @@ use Rattle.dist_model.specs.Items.{Item, Signalled, news_in, telling, has_reason
 use Rattle.dist_model.specs.Names.{Name, pair_cmp, same_name, same_pid}
 use Rattle.dist_model.specs.Node.{Node, end_of, living, is_stranger, route, route_in, side_where, payload_to}
 use Rattle.dist_model.specs.Sides.{TrunkSide, is_losing, is_up}
-use Rattle.dist_model.specs.Work.{Addressed, Work, keep_local, post, post_all, post_to, send_on, spelled, to_pid}
+use Rattle.dist_model.specs.Work.{Addressed, Work, keep_local, post, post_all, post_to, send_on, spelled}
 use Rattle.dist_model.specs.declared.report.Effect.{Effect}
 use Rattle.erl_control.specs.declared.signal.Signal.{Signal}
 use Rattle.erl_names.specs.Order.{trunk_cmp}

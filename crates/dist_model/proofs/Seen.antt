@@ -3,7 +3,7 @@ use Rattle.std.proofs.Common.{cond, map, Bool, false, List, [], Option, None, â—
 use Rattle.std.specs.Option.{is_some, unwrap_or}
 use Rattle.std.specs.FinMap as fm
 use Rattle.dist_model.specs.Linking.{told_to}
-use Rattle.dist_model.specs.Items.{Item, news, telling}
+use Rattle.dist_model.specs.Items.{Item, news}
 use Rattle.dist_model.specs.Losses.{close_side}
 use Rattle.dist_model.specs.Names.{Name}
 use Rattle.dist_model.specs.Node.{Node, end_of, living, reaches, side_where}
@@ -11,7 +11,6 @@ use Rattle.dist_model.specs.Runs.{new_node}
 use Rattle.dist_model.specs.Seen.{seen}
 use Rattle.dist_model.specs.Sides.{TrunkSide, is_losing, is_up}
 use Rattle.dist_model.specs.Work.{Addressed, Work}
-use Rattle.erl_control.specs.declared.signal.Signal.{Signal}
 use Rattle.erl_names.specs.declared.trunk.TrunkId.{TrunkId}
 use Rattle.erl_term.specs.declared.term.Pid.{Pid}
 use Rattle.link_core.specs.News.{LinkNews}

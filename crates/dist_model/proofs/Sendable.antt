@@ -9,7 +9,7 @@ use Rattle.std.specs.Option.{is_some}
 use Rattle.std.specs.Prelude.{codes}
 use Rattle.std.specs.FinMap as fm
 use Rattle.std.specs.FinMap.{FinMap}
-use Rattle.dist_model.proofs.Calls.{IfGoes, if_cond, if_drawn, if_not}
+use Rattle.dist_model.proofs.Calls.{IfGoes, if_cond, if_drawn, if_not, registered_goes, unregistered_goes}
 use Rattle.dist_model.proofs.ClosedSides.{any_found}
 use Rattle.dist_model.proofs.DueParts.{sent_sweep}
 use Rattle.erl_control.proofs.FitsTest.{ascii_text, fits_test}
@@ -20,7 +20,7 @@ use Rattle.dist_model.proofs.OneStep.{arrives, while_up}
 use Rattle.dist_model.proofs.Seen.{list_in, local_at, new_nodes, replies}
 use Rattle.dist_model.proofs.Sides.{side_at}
 use Rattle.dist_model.specs.Arrivals.{arrive_at, arrive_fresh, handshake_in, take_local}
-use Rattle.dist_model.specs.Calls.{acting, call, toward}
+use Rattle.dist_model.specs.Calls.{acting, call, toward, with_names}
 use Rattle.dist_model.specs.Claims.{EverySignalFits, EverySignalFitsWithin}
 use Rattle.dist_model.specs.Commands.{Accepts, Outcome, Refuses}
 use Rattle.dist_model.specs.declared.command.Command.{Command}
@@ -30,12 +30,12 @@ use Rattle.erl_control.specs.Fits.{fits}
 use Rattle.dist_model.specs.Handshake.{identity, with_side, write, set_state}
 use Rattle.dist_model.specs.Incarnations.{start, stop, stopped}
 use Rattle.dist_model.specs.Items.{Item, Signalled, telling}
-use Rattle.erl_control.specs.Ends.{receiver_of}
 use Rattle.dist_model.specs.Linking.{exit_follows, link_by, link_new, take_link, take_link_by, unlink_by}
 use Rattle.dist_model.specs.Losses.{any_side, link_to, lose, registered_by, sweep, sweep_by, sweep_end, watch_to}
 use Rattle.dist_model.proofs.Records.{least_as, sweep_link, sweep_registered, sweep_watch}
 use Rattle.dist_model.specs.Monitoring.{demonitor_by, pid_watch, register, registration_of, unregister, unwatch, watch}
 use Rattle.dist_model.specs.Names.{Name, place_cmp, same_name, same_pid}
+use Rattle.dist_model.specs.Naming.{NameMap}
 use Rattle.dist_model.specs.NodeEvents.{if_up}
 use Rattle.dist_model.proofs.Envelopes.{Envelope, outgoing, sent_by, sent_in, sent_in-silent}
 use Rattle.dist_model.specs.Node.{Node, end_of, living, is_stranger, reaches, side_where, traps_life, ends_of}
@@ -261,6 +261,9 @@ module _ (n : Node) (k : X (at_work n)) where
   by_living : (p : Pid) (o : Outcome) → IfGoes o X → IfGoes (acting n p o) X
   by_living p o h = if_cond (living n p) o Refusal.NoSuchProcess X (λ l. h)
 
+  renamed : (m : NameMap) → X (with_names n m)
+  renamed m = record { local = k.local; sent = k.sent }
+
   called : (c : Command) → IfGoes (call n c) X
   called Command.Spawn = if_drawn (id_of n.mint kind.Pid) _ X (λ id h. record { local = k.local; sent = k.sent })
   called (Command.Send p q m) = acted p q _ (fitted m _ (λ f. posted (to_pid q (Signal.Send q m)) (at_work n) (tt, f) k))
@@ -280,6 +283,10 @@ module _ (n : Node) (k : X (at_work n)) where
   called (Command.Receive p) = by_living p _ (record { local = k.local; sent = k.sent })
   called (Command.LinksOf p) = by_living p _ k
   called (Command.IsAlive p) = k
+  called (Command.Register p name) = if_cond (living n p) _ Refusal.NoSuchProcess X
+      (λ l. registered_goes n p X (λ m c. renamed m) name l)
+  called (Command.Unregister p) = by_living p _ (unregistered_goes n p X (λ m c. renamed m))
+  called (Command.WhereIs name) = k
 
 -- ---- what comes, and connections
 

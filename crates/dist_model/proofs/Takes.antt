@@ -5,14 +5,12 @@ use Rattle.std.proofs.Common.{◌++◌, refl, sym, ap, ◌∙◌, subst, arith, 
 use Rattle.dist_model.proofs.Envelopes.{outgoing}
 use Rattle.dist_model.proofs.Keys.{same_pid_refl}
 use Rattle.dist_model.proofs.Seen.{replies}
-use Rattle.dist_model.proofs.Views.{AllSuit, Suits, linking_suits, more, over, post_all_keeps}
+use Rattle.dist_model.proofs.Views.{AllSuit, linking_suits, more, over, post_all_keeps}
 use Rattle.dist_model.proofs.Views.{post_all_view, posted, telling_news, view}
-use Rattle.dist_model.specs.Items.{Signalled, telling}
 use Rattle.dist_model.specs.Linking.{exit_follows, take_link, take_link_by}
 use Rattle.dist_model.specs.Names.{Name, same_name, same_pid}
 use Rattle.dist_model.specs.Node.{end_of, living, is_stranger, reaches}
 use Rattle.dist_model.specs.Work.{Addressed, Work, post, post_all, set_end, spelled}
-use Rattle.erl_control.specs.declared.signal.Signal.{Signal}
 use Rattle.erl_term.specs.declared.term.Pid.{Pid}
 use Rattle.link_core.specs.declared.end.End.{End}
 use Rattle.link_core.specs.declared.end.LinkSignal.{LinkSignal}

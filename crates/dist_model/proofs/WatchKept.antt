@@ -41,7 +41,7 @@ use Rattle.dist_model.specs.Incarnations.{start, stop}
 use Rattle.dist_model.specs.Items.{Handshake, Item, Signalled, kind_of}
 use Rattle.dist_model.specs.Losses.{any_side, lose, sweep}
 use Rattle.dist_model.specs.Monitoring.{monitor, pid_watch, register, registration_of, unwatch, watch}
-use Rattle.dist_model.specs.Names.{Name, same_name, same_pid}
+use Rattle.dist_model.specs.Names.{Name, same_name}
 use Rattle.dist_model.specs.Node.{Node, living, is_stranger, reaches, route}
 use Rattle.dist_model.specs.Sides.{Gone, State, TrunkSide, Up, is_losing, is_up, is_over, lost}
 use Rattle.dist_model.specs.Taking.{take_item}
@@ -58,7 +58,7 @@ use Rattle.erl_term.specs.declared.term.Reference.{Reference}
 use Rattle.exit_core.specs.Messages.{down_term}
 use Rattle.link_core.specs.News.{noconnection, noproc}
 use Rattle.erl_term.proofs.Order.{reference_cmp_total}
-use Rattle.monitor_core.specs.Monitors.{MonitorMap, RegistrationMap, added, is_held, is_this, itself, same_target}
+use Rattle.monitor_core.specs.Monitors.{RegistrationMap, added, is_held, is_this, itself, same_target}
 use Rattle.dist_model.specs.Sides.{untold}
 use Rattle.monitor_core.specs.declared.monitor.Target.{Target}
 use Rattle.monitor_core.specs.declared.monitor.Watch.{Watch}

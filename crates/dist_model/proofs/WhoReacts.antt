@@ -8,7 +8,7 @@ use Rattle.std.specs.Option.{is_some}
 use Rattle.std.specs.FinMap as fm
 use Rattle.dist_model.specs.NodeEvents.{if_up}
 use Rattle.dist_model.proofs.OneStep.{arrives, while_up}
-use Rattle.dist_model.proofs.Calls.{IfGoes, if_cond, if_not, if_either}
+use Rattle.dist_model.proofs.Calls.{IfGoes, if_cond, if_not, if_either, registered_goes, unregistered_goes}
 use Rattle.dist_model.proofs.Home.{never_own}
 use Rattle.dist_model.proofs.Keys.{same_name_true}
 use Rattle.dist_model.proofs.Posts.{NodeKept}
@@ -150,6 +150,11 @@ module _ (n : Node) where
   called (Command.Receive a) = if_cond (living n a) _ Refusal.NoSuchProcess (OwnLink n (Command.Receive a)) (λ l p q h. nothing h)
   called (Command.LinksOf a) = if_cond (living n a) _ Refusal.NoSuchProcess (OwnLink n (Command.LinksOf a)) (λ l p q h. nothing h)
   called (Command.IsAlive a) = λ p q h. nothing h
+  called (Command.Register a name) = if_cond (living n a) _ Refusal.NoSuchProcess (OwnLink n (Command.Register a name))
+      (λ l. registered_goes n a (OwnLink n (Command.Register a name)) (λ m c p q h. nothing h) name l)
+  called (Command.Unregister a) = if_cond (living n a) _ Refusal.NoSuchProcess (OwnLink n (Command.Unregister a))
+      (λ l. unregistered_goes n a (OwnLink n (Command.Unregister a)) (λ m c p q h. nothing h))
+  called (Command.WhereIs name) = λ p q h. nothing h
 
 -- sweeps
 calm_parked : (v : State) (t : TrunkId) (s : TrunkSide) (o : Work) → Calm o (released_by v t s o)

@@ -1,7 +1,8 @@
 -- The calls of a node.
--- (Reference Manual, Processes: Process Creation, Links, Monitors, Error Handling.)
-use Rattle.std.specs.Prelude.{Option, None, Some, Bool, false, if◌then◌else◌, [], ◌∷◌, ◌&&◌}
+-- (Reference Manual, Processes: Process Creation, Registered Processes, Links, Monitors, Error Handling.)
+use Rattle.std.specs.Prelude.{Option, None, Some, is_some, Bool, false, if◌then◌else◌, [], ◌∷◌, ◌&&◌, nat_eq, codes}
 use Rattle.std.specs.FinMap as fm
+use Rattle.std.specs.Cmp.Lexicographic.{pointwise}
 use Rattle.erl_names.specs.Draw as kind
 use Rattle.dist_model.specs.Commands.{Accepts, Outcome, Refuses, with_id}
 use Rattle.dist_model.specs.declared.report.Answer.{Answer}
@@ -10,7 +11,8 @@ use Rattle.dist_model.specs.Exits.{end_process}
 use Rattle.erl_control.specs.Fits.{fits}
 use Rattle.dist_model.specs.Linking.{link, unlink_by}
 use Rattle.dist_model.specs.Monitoring.{demonitor_by, monitor}
-use Rattle.dist_model.specs.Names.{same_name}
+use Rattle.dist_model.specs.Names.{Name, same_name}
+use Rattle.dist_model.specs.Naming.{NameMap, name_of, without_holder}
 use Rattle.dist_model.specs.Node.{Life, Living, Node, end_of, ends_of, living, is_stranger}
 use Rattle.dist_model.specs.Work.{Work, at_work, draw, post, set_life, to_pid}
 use Rattle.erl_control.specs.declared.signal.Signal.{Signal}
@@ -24,7 +26,7 @@ use Rattle.erl_term.specs.declared.term.Pid.{Pid}
 abbrev pub acting : Node → Pid → Outcome → Outcome
 acting node p outcome = if living node p then outcome else Refuses Refusal.NoSuchProcess
 
--- a pid of this node that the node never spawned can't be acted on
+-- no process can act on a pid of this node that the node never spawned
 abbrev pub toward : Node → Pid → Outcome → Outcome
 toward node q outcome = if same_name q.node node.mint.name && is_stranger node q then Refuses Refusal.Forged else outcome
 
@@ -49,6 +51,26 @@ abbrev pub without_first : Option Life → Option Life
 without_first (Some (Living trap (message ∷ rest))) = Some (Living trap rest)
 without_first life = life
 
+-- ---- registered names. (Reference Manual, Processes, Registered Processes; erlang:register/2, unregister/1 and whereis/1)
+
+abbrev pub with_names : Node → NameMap → Work
+with_names node names = at_work (record node { names = names })
+
+abbrev pub is_undefined : Name → Bool
+is_undefined name = pointwise nat_eq name (codes "undefined")
+
+-- `undefined` is no name of a process, a name is of one process, and a process has one name
+abbrev pub taking : Node → Pid → Name → Outcome → Outcome
+taking node p name outcome =
+    if is_undefined name then Refuses Refusal.BadName else
+    (if is_some (fm.get node.names name) then Refuses Refusal.NameTaken else
+    (if is_some (name_of node.names p) then Refuses Refusal.HasName else outcome))
+
+abbrev pub giving_up : Node → Pid → Outcome → Outcome
+giving_up node p outcome = if is_some (name_of node.names p) then outcome else Refuses Refusal.NoName
+
+-- ---- all calls
+
 abbrev pub call : Node → Command → Outcome
 call node Command.Spawn = with_id (id_of node.mint kind.Pid) (λ id.
     Accepts (Answer.Pid (pid_of node.mint id)) (spawn_life node (pid_of node.mint id)))
@@ -67,3 +89,7 @@ call node (Command.Receive p) =
     acting node p (Accepts (Answer.Message (first_message (fm.get node.lives p))) (with_life node p (without_first (fm.get node.lives p))))
 call node (Command.LinksOf p) = acting node p (Accepts (Answer.Links (ends_of node p)) (at_work node))
 call node (Command.IsAlive p) = Accepts (Answer.Alive (living node p)) (at_work node)
+call node (Command.Register p name) =
+    acting node p (taking node p name (Accepts Answer.Done (with_names node (fm.insert node.names name p))))
+call node (Command.Unregister p) = acting node p (giving_up node p (Accepts Answer.Done (with_names node (without_holder node.names p))))
+call node (Command.WhereIs name) = Accepts (Answer.Holder (fm.get node.names name)) (at_work node)

@@ -4,6 +4,7 @@ use Rattle.std.specs.Ordering.{eq_by_cmp}
 use Rattle.std.specs.FinMap as fm
 use Rattle.dist_model.specs.Items.{Item, Signalled, news}
 use Rattle.dist_model.specs.Names.{Name, place_cmp}
+use Rattle.dist_model.specs.Naming.{IsOneToOne}
 use Rattle.dist_model.specs.NodeEvents.{at_node}
 use Rattle.dist_model.specs.Arrivals.{is_good}
 use Rattle.dist_model.specs.Commands.{Accepts, Refuses}
@@ -75,7 +76,8 @@ NoLinkToItself w = (p : Pid) → end_between w p p ≡ End.None
 
 -- ---- Links are of living processes that can reach each other. (Reference Manual, Processes, Links; Distributed Erlang)
 
--- an end other than none belongs to a living process, towards its own node or a node with a connection that is up or not yet swept
+-- an end other than none belongs to a living process. Its partner is of the same node, or of one with a connection that is up or not
+-- yet swept
 abbrev pub LinkNeedsConnection : World → Type 0
 LinkNeedsConnection w = (p q : Pid) → (end_between w p q ≡ End.None → ⊥)
     → (is_living w p ≡ true) × ((q.node ≡ p.node) ⊎ (is_connected w p.node q.node ≡ true))
@@ -93,10 +95,15 @@ SpawnedLivesOrEnded w = (name : Name) (node : Node) (p : Pid) → node_of w.node
     → node.up ≡ true → p.creation ≡ node.mint.creation → is_stranger node p ≡ false
     → (living node p ≡ true) ⊎ ((reason : Data) × (fm.get node.lives p ≡ Some (Ended reason)))
 
--- a node that is down keeps no processes, no links and no monitors
+-- each registered name is of a living process of its node, and no process has two
+abbrev pub NamesAreOfTheLiving : World → Type 0
+NamesAreOfTheLiving w = (x : Name) (node : Node) → node_of w.nodes x ≡ Some node
+    → ((name : Name) (p : Pid) → fm.get node.names name ≡ Some p → living node p ≡ true) × IsOneToOne node.names
+
+-- a node that is down keeps no processes, no names, no links and no monitors
 abbrev pub DownHoldsNothing : World → Type 0
 DownHoldsNothing w = (name : Name) (node : Node) → node_of w.nodes name ≡ Some node → node.up ≡ false
-    → (node.lives ≡ fm.empty) × (node.ends ≡ fm.empty) × (node.watches ≡ fm.empty) × (node.registered ≡ fm.empty)
+    → (node.lives ≡ fm.empty) × (node.names ≡ fm.empty) × (node.ends ≡ fm.empty) × (node.watches ≡ fm.empty) × (node.registered ≡ fm.empty)
 
 -- ---- One trunk. (ERTS User's Guide, Distribution Protocol, Distribution Handshake: at most one connection between two nodes)
 
@@ -111,12 +118,12 @@ NoUpBesideLosing w = (x y : Name) (t u : TrunkId) → HasSide w x t y is_up → 
 -- ---- Introductions. (ERTS User's Guide, Distribution Protocol, Distribution Handshake, send_name and send_challenge: each node
 -- tells its own creation and flags)
 
--- while x's side of a trunk is not gone, each item in flight from x carries the creation of x's running incarnation and x's flags, or none
+-- while x's side of a trunk is not gone, each item in flight from x that introduces x has its current creation and its flags
 abbrev pub IntroductionsAreTold : World → Type 0
 IntroductionsAreTold w = (x y : Name) (t : TrunkId) (item : Item) (said : Introduction) → HasSide w x t y goes_on
     → Contains (list_to w.lists t y) item → told_by item ≡ Some said → introduced w x ≡ Some said
 
--- while x's side is not gone, the peer's side knows the creation of x's running incarnation and x's flags, or none
+-- while x's side is not gone, the peer's side knows x's current creation and x's flags, or none
 abbrev pub IntroductionsAreKnown : World → Type 0
 IntroductionsAreKnown w = (x y : Name) (t : TrunkId) → HasSide w x t y goes_on → (theirs : HasSide w y t x knows_peer)
     → introduced w x ≡ Some theirs.side.introduction
@@ -166,25 +173,25 @@ abbrev pub effects_of : Report → List (Effect Item)
 effects_of (Refused why) = []
 effects_of (Reported answer effects) = effects
 
--- what was sent on a trunk to a node
+-- the items that were sent on a trunk to a node
 abbrev pub sent_to : TrunkId → Name → List (Effect Item) → List Item
 sent_to t x [] = []
 sent_to t x (Effect.Sent (Some u) y item ∷ rest) = (if eq_by_cmp place_cmp (t, x) (u, y) then item ∷ [] else []) ++ sent_to t x rest
 sent_to t x (effect ∷ rest) = sent_to t x rest
 
--- whatever happens next, the items in flight on a trunk to a node keep their order. The items that the report says were sent, and no
--- others, are appended. The first item is removed only when it is delivered to that node
+-- the items in flight on a trunk to a node keep their order at any event. The event appends the items that its report says were sent,
+-- and no others. It removes the first item only if it delivers that item to the node
 abbrev pub KeepsOrder : World → Type 0
 KeepsOrder w = (e : Event) (t : TrunkId) (x : Name) → let s = step w e in let sent = sent_to t x (effects_of s.report) in
     (list_to s.world.lists t x ≡ list_to w.lists t x ++ sent)
     ⊎ (((word : ℕ) × (e ≡ Arrive t x word)) × (first : Item) × (rest : List Item) × (list_to w.lists t x ≡ first ∷ rest)
     × (list_to s.world.lists t x ≡ rest ++ sent))
 
--- items are appended to those in flight
+-- an event appends items to those in flight
 abbrev pub Grows : List Item → List Item → Type 0
 Grows old new = (more : List Item) × (new ≡ old ++ more)
 
--- the first one is removed
+-- an event removes the first one
 abbrev pub LosesFirst : List Item → List Item → Type 0
 LosesFirst old new = (first : Item) × (rest : List Item) × (old ≡ first ∷ rest) × Grows rest new
 

@@ -1,9 +1,10 @@
--- Exits: a process ends, and an exit signal comes to one.
+-- Exits: the end of a process, and the arrival of an exit signal.
 -- (Reference Manual, Processes, Receiving Exit Signals; Links; Monitors.)
 use Rattle.std.specs.List.{flat_map}
 use Rattle.std.specs.Prelude.{true, false, not, if◌then◌else◌, List, [], ◌∷◌, ◌++◌}
 use Rattle.std.specs.FinMap as fm
 use Rattle.dist_model.specs.Names.{same_pid}
+use Rattle.dist_model.specs.Naming.{without_holder}
 use Rattle.dist_model.specs.Node.{Ended, ends_of, traps}
 use Rattle.dist_model.specs.Telling.{taken_back, told_end}
 use Rattle.dist_model.specs.Work.{Addressed, Work, post_all, put, report, to_pid}
@@ -40,11 +41,12 @@ abbrev pub demonitors : Pid → List (Reference × Watch) → List Addressed
 demonitors p = flat_map (λ entry.
     if same_pid entry.1.owner p then taken_back p entry.1.target entry.0 else [])
 
--- its mailbox and its records go, and it keeps its reason
+-- its mailbox, its name and its records go, and it keeps its reason
 abbrev pub buried : Pid → Data → Work → Work
 buried p reason work = record work {
   node = record (work.node) {
     lives = fm.insert work.node.lives p (Ended reason);
+    names = without_holder work.node.names p;
     ends = fm.retain_keys work.node.ends (λ pair. not (same_pid pair.0 p));
     watches = without_owner work.node.watches p;
     registered = without_held work.node.registered p;

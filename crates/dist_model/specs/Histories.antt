@@ -1,5 +1,5 @@
 -- All that has happened in a run: its events, each with what was reported of it.
-use Rattle.std.specs.Prelude.{List, [], ◌∷◌, ℕ}
+use Rattle.std.specs.Prelude.{List, [], ◌∷◌}
 use Rattle.dist_model.specs.Names.{Name}
 use Rattle.dist_model.specs.Runs.{Runs, opening, reports_of}
 use Rattle.dist_model.specs.World.{Event, Report, World}

@@ -19,12 +19,20 @@ all_gone = map (λ entry. (entry.0, in_state Gone (entry.1)))
 abbrev pub without_sides : Node → FinMap trunk_cmp TrunkSide
 without_sides node = fm.from_entries (all_gone (fm.entries node.sides))
 
--- no process is living any more, nothing is sent, and every connection is gone
+-- the node drops its processes, with their names, links and monitors. It sends nothing, and all its connections are gone
 abbrev pub stopped : Node → Node
 stopped node =
-    record node { up = false; lives = fm.empty; ends = fm.empty; watches = fm.empty; registered = fm.empty; sides = without_sides node }
+    record node {
+      up = false;
+      lives = fm.empty;
+      names = fm.empty;
+      ends = fm.empty;
+      watches = fm.empty;
+      registered = fm.empty;
+      sides = without_sides node;
+    }
 
--- the creation is one more, and nothing is left but the trunks that it has dialed and those that are gone
+-- the creation is one more. The node keeps its name, its setup, the number of its dials, and its sides, which are gone
 abbrev pub started : Node → Node
 started node = record (stopped node) { mint = nothing_drawn node.mint.name (node.mint.creation + 1); up = true; local = [] }
 

@@ -1,5 +1,5 @@
--- What any event leaves of its node, whichever node it is.
--- (ERTS User's Guide, Distribution Protocol, Distribution Handshake. That sides stay once they are gone is own.)
+-- The properties that every event of a node keeps.
+-- (ERTS User's Guide, Distribution Protocol, Distribution Handshake. Own: a side stays once it is gone.)
 use Rattle.std.specs.Prelude.{◌≡◌, ◌≢◌, ◌≤◌, ◌⊎◌, ◌||◌, ℕ, Bool, true, false, None, Some, Contains}
 use Rattle.std.specs.FinMap as fm
 use Rattle.dist_model.specs.Commands.{Accepts, Outcome}
@@ -7,6 +7,7 @@ use Rattle.dist_model.specs.Dialing.{next_trunk}
 use Rattle.dist_model.specs.declared.report.Answer.{Answer}
 use Rattle.dist_model.specs.Items.{Item}
 use Rattle.dist_model.specs.Names.{Name}
+use Rattle.dist_model.specs.Naming.{IsOneToOne}
 use Rattle.dist_model.specs.Node.{Node, end_of, living}
 use Rattle.dist_model.specs.NodeEvents.{Arrive, Dial, NodeEvent}
 use Rattle.dist_model.specs.Sides.{Asked, Gone, Parked, State, TrunkSide, is_dialing, is_waiting}
@@ -39,19 +40,19 @@ Dials node event trunk peer =
 
 pub record Bearings (node : Node) (event : NodeEvent) (work : Work) : Type 0 where
   pub name : work.node.mint.name ≡ node.mint.name
-  -- a side stays, and its peer, but where the node dials on its trunk: then it is towards that one
+  -- a side stays, towards its peer. If the node dials on its trunk, the side is towards the dialed node
   pub stays : (trunk : TrunkId) (peer : Name) → Towards node trunk peer
       → Towards work.node trunk peer ⊎ ((other : Name) × Dials node event trunk other × Towards work.node trunk other)
-  -- what is sent on a trunk goes to the peer of its side
+  -- each item sent on a trunk goes to the peer of its side
   pub sent : (trunk : TrunkId) (peer : Name) (item : Item)
       → Contains work.effects (Effect.Sent (Some trunk) peer item) → Towards work.node trunk peer
-  -- a new side is one that an item comes to, towards its dialer, or that the node dials
+  -- a new side comes about by an item, towards its dialer, or by a dial of the node
   pub new : (trunk : TrunkId) (side : TrunkSide) → fm.get node.sides trunk ≡ None → fm.get work.node.sides trunk ≡ Some side
       → (Comes event trunk × (side.peer ≡ trunk.dialer)) ⊎ Dials node event trunk side.peer
 
--- ---- what a node keeps throughout
+-- ---- the properties of a node at all times
 
--- it dials, has accepted, or is a connection: it doesn't wait for another's end
+-- the side dials, has accepted, or is a connection: it doesn't wait for another's end
 abbrev pub is_engaged : State → Bool
 is_engaged (Asked w) = false
 is_engaged (Parked w) = false
@@ -62,7 +63,7 @@ is_engaged _ = true
 abbrev pub is_attempt : State → Bool
 is_attempt state = is_dialing state || is_waiting state
 
--- of the sides towards one peer at most one is in such a state
+-- at most one of the sides towards a peer has a state that passes
 abbrev pub AtMostOne : (State → Bool) → Node → Type 0
 AtMostOne test node = (t u : TrunkId) (s v : TrunkSide) → fm.get node.sides t ≡ Some s → fm.get node.sides u ≡ Some v → s.peer ≡ v.peer
     → test s.state ≡ true → test v.state ≡ true → t ≡ u
@@ -70,17 +71,20 @@ AtMostOne test node = (t u : TrunkId) (s v : TrunkSide) → fm.get node.sides t 
 pub record Steady (node : Node) : Type 0 where
   pub engaged : AtMostOne is_engaged node
   pub attempts : AtMostOne is_attempt node
-  -- links and monitors are of living processes, and bound to such
+  -- links, own monitors and names belong to living processes, and monitors of others are bound to living ones
   pub ends : (p q : Pid) → end_of node p q ≢ End.None → living node p ≡ true
   pub owners : (r : Reference) (m : Watch) → fm.get node.watches r ≡ Some m → living node m.owner ≡ true
   pub bound : (r : Reference) (m : Registration) → fm.get node.registered r ≡ Some m → living node m.held ≡ true
+  pub holders : (name : Name) (p : Pid) → fm.get node.names name ≡ Some p → living node p ≡ true
+  -- a process has one name at most
+  pub one_name : IsOneToOne node.names
 
 -- ---- the trunks of which a node is the dialer
 
--- it has dialed those that it has sides of
+-- the node has dialed those that it has sides of
 abbrev pub CountsOwn : Node → Type 0
 CountsOwn node = (t : TrunkId) (s : TrunkSide) → fm.get node.sides t ≡ Some s → t.dialer ≡ node.mint.name → t.count ≤ node.dialed
 
--- no item comes of one that it has no side of
+-- no item comes on one that the node has no side of
 abbrev pub ComesOfOthers : Node → NodeEvent → Type 0
 ComesOfOthers node event = (t : TrunkId) → Comes event t → t.dialer ≡ node.mint.name → fm.get node.sides t ≢ None

@@ -1,4 +1,5 @@
 pub mod Names
+pub mod Naming
 pub mod Items
 pub mod Sides
 pub mod Node

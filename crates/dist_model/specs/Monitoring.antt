@@ -6,7 +6,7 @@ use Rattle.dist_model.specs.Commands.{Accepts, Outcome, Refuses}
 use Rattle.dist_model.specs.declared.report.Answer.{Answer}
 use Rattle.dist_model.specs.Names.{same_pid}
 use Rattle.dist_model.specs.Node.{living, reaches}
-use Rattle.dist_model.specs.Telling.{object, taken_back}
+use Rattle.dist_model.specs.Telling.{taken_back}
 use Rattle.dist_model.specs.Work.{Work, post, post_all, put, to_pid}
 use Rattle.erl_control.specs.declared.signal.Signal.{Signal}
 use Rattle.erl_term.specs.Data.{Data}

@@ -1,4 +1,4 @@
--- One node: what it keeps of its processes, their links and monitors, and its connections.
+-- The state of a node: its processes, with their names, links and monitors, and its connections.
 use Rattle.std.specs.Prelude.{unwrap_or, Option, None, Some, is_some, ℕ, Bool, true, false, not}
 use Rattle.std.specs.Prelude.{if◌then◌else◌, List, [], ◌∷◌, ◌==◌, nat_lt, ◌&&◌, ◌||◌}
 use Rattle.std.specs.FinMap as fm
@@ -6,6 +6,7 @@ use Rattle.std.specs.List.{flat_map}
 use Rattle.std.specs.Option.{option_map}
 use Rattle.dist_model.specs.Items.{Item}
 use Rattle.dist_model.specs.Names.{Name, pair_cmp, same_name, same_pid}
+use Rattle.dist_model.specs.Naming.{NameMap}
 use Rattle.dist_model.specs.Sides.{State, TrunkSide, is_up}
 pub use Rattle.sorted_map.specs.Entries.{first_where}
 use Rattle.erl_handshake.specs.Flags.{offers}
@@ -26,22 +27,24 @@ pub data Life : Type 0 where
   Ended : (reason : Data) → Life
 
 pub record Node : Type 0 where
-  -- its name and creation, and what this incarnation has drawn
+  -- its name and creation, and the draws of this incarnation
   pub mint : Minted
   pub cookie : List ℕ
   -- the flags that it offers
   pub flags : ℕ
   pub up : Bool
-  -- how many trunks it has ever dialed
+  -- the number of trunks that it has ever dialed
   pub dialed : ℕ
   pub lives : FinMap pid_cmp Life
+  -- the process that has each registered name
+  pub names : NameMap
   -- by the process and its partner
   pub ends : FinMap pair_cmp End
   -- the monitors that its processes own, and those that others have of them
   pub watches : WatchMap
   pub registered : RegistrationMap
   pub sides : FinMap trunk_cmp TrunkSide
-  -- what travels from the node to itself
+  -- the items in flight from the node to itself
   pub local : List Item
 
 abbrev pub is_living_life : Option Life → Bool
@@ -58,7 +61,7 @@ traps_life _ = false
 abbrev pub traps : Node → Pid → Bool
 traps node p = traps_life (fm.get node.lives p)
 
--- no process of the node has had this pid: it is of another node, or its creation or its id is to come, or no process has such an id
+-- no process of the node has had this pid. It is of another node, its creation or its id is to come, or no process has such an id
 abbrev pub is_stranger : Node → Pid → Bool
 is_stranger node p =
     not (same_name p.node node.mint.name)
@@ -67,7 +70,7 @@ is_stranger node p =
     || p.id == 0
     || not (p.serial == 0)
 
--- an end that isn't there is one of no link
+-- a missing end is an end of no link
 abbrev pub end_of : Node → Pid → Pid → End
 end_of node p q = unwrap_or (fm.get node.ends (p, q)) End.None
 
@@ -89,7 +92,7 @@ route_in entries peer = option_map (λ entry. entry.0) (side_where is_up peer en
 abbrev pub route : Node → Name → Option TrunkId
 route node peer = route_in (fm.entries node.sides) peer
 
--- whether a signal to a process of that name's node goes anywhere
+-- true if signals reach the node of that name: it is this node, or a trunk is up towards it
 abbrev pub reaches : Node → Name → Bool
 reaches node name = same_name name node.mint.name || is_some (route node name)
 
@@ -102,7 +105,7 @@ both_offer flag node (Some side) = offers node.flags flag && offers side.introdu
 abbrev pub has_payload : Node → TrunkId → Bool
 has_payload node trunk = both_offer Flag.ExitPayload node (fm.get node.sides trunk)
 
--- the same of signals to processes of that name's node. Within a node none do
+-- the same, with None for signals within the node, whose reasons don't follow
 abbrev pub payload_on : Node → Option TrunkId → Bool
 payload_on node None = false
 payload_on node (Some trunk) = has_payload node trunk

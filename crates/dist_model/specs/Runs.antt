@@ -1,5 +1,5 @@
 -- Opening worlds, and the worlds that a list of events leads to.
-use Rattle.std.specs.Prelude.{map, ◌≡◌, ◌⊎◌, ℕ, true, List, [], ◌∷◌}
+use Rattle.std.specs.Prelude.{map, ◌≡◌, ◌⊎◌, true, List, [], ◌∷◌}
 use Rattle.std.specs.FinMap as fm
 use Rattle.dist_model.specs.Names.{Name}
 use Rattle.dist_model.specs.Node.{Node}
@@ -19,6 +19,7 @@ new_node name setup = record {
   up = true;
   dialed = 0;
   lives = fm.empty;
+  names = fm.empty;
   ends = fm.empty;
   watches = fm.empty;
   registered = fm.empty;
@@ -30,7 +31,7 @@ new_node name setup = record {
 abbrev pub opening : List (Name × Setup) → World
 opening nodes = record { names = map (λ node. node.0) nodes; nodes = map (λ node. new_node node.0 node.1) nodes; lists = fm.empty }
 
--- the event was not refused
+-- the report of an event that was accepted
 abbrev pub IsReported : Report → Type 0
 IsReported (Refused why) = ⊥
 IsReported (Reported answer effects) = Unit {0}

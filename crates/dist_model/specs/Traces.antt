@@ -1,7 +1,7 @@
 -- A run as a trace: each event with its report and the world before it; and the introduction in which the owner's node knew the target's
 -- node when Monitor was called.
 -- (ERTS User's Guide, Distribution Protocol, Distribution Handshake, on creations; Reference Manual, Processes, Monitors.)
-use Rattle.std.specs.Prelude.{◌≡◌, ◌⊎◌, ℕ, Bool, true, Option, None, Some, if◌then◌else◌, List, [], ◌∷◌, Contains}
+use Rattle.std.specs.Prelude.{◌≡◌, ◌⊎◌, Bool, true, Option, None, Some, if◌then◌else◌, List, [], ◌∷◌, Contains}
 use Rattle.std.specs.FinMap as fm
 use Rattle.dist_model.specs.Introductions.{goes_on, introduced}
 use Rattle.dist_model.specs.declared.command.Command.{Command}

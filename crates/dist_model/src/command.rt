@@ -1,9 +1,10 @@
-//! What a caller may ask of a node.
+//! The commands of a caller to a node.
 
-use erl_term::{Payload, Pid, Reference};
+use erl_term::{Atom, Payload, Pid, Reference};
 
-/// A request of a caller to a node. `Receive`, `LinksOf` and `IsAlive` look at a process from outside.
-/// (Reference Manual, Processes: Process Creation, Links, Monitors, Error Handling.)
+/// A request of a caller to a node. `Receive`, `LinksOf`, `IsAlive` and `WhereIs` look at a node from
+/// outside. (Reference Manual, Processes: Process Creation, Registered Processes, Links, Monitors, Error
+/// Handling.)
 #[derive(Debug, Drop)]
 pub enum Command {
     /// A new process, which doesn't trap exits.
@@ -14,7 +15,7 @@ pub enum Command {
         from: Pid,
         /// The process that gets the message.
         to: Pid,
-        /// What is sent.
+        /// The message.
         message: Payload,
     },
     /// A process links itself to another.
@@ -24,7 +25,7 @@ pub enum Command {
         /// Its partner.
         to: Pid,
     },
-    /// A process takes its link back.
+    /// A process unlinks itself from another.
     Unlink {
         /// The process that unlinks.
         from: Pid,
@@ -38,37 +39,37 @@ pub enum Command {
         /// The process that is monitored.
         target: Pid,
     },
-    /// A process takes a monitor back.
+    /// A process ends a monitor of its own, as by `demonitor/1`.
     Demonitor {
         /// The process that monitors.
         owner: Pid,
-        /// Tells the monitor from others.
+        /// The reference of the monitor.
         reference: Reference,
     },
     /// A process begins or ceases to trap exits.
     Trap {
         /// The process.
         process: Pid,
-        /// Whether it traps them.
+        /// The new setting: true if it traps them.
         on: bool,
     },
     /// A process asks another to end, as by `exit/2`.
     ExitTo {
         /// The process that asks.
         from: Pid,
-        /// The process that is to end.
+        /// The process that gets the exit signal.
         to: Pid,
-        /// The reason that it is given.
+        /// The exit reason.
         reason: Payload,
     },
     /// A process ends, as by `exit/1`.
     ExitSelf {
         /// The process.
         process: Pid,
-        /// Why it ends.
+        /// The exit reason.
         reason: Payload,
     },
-    /// The oldest message of a process is taken out of its mailbox.
+    /// The oldest message of a process, which leaves its mailbox.
     Receive {
         /// The process.
         process: Pid,
@@ -78,9 +79,26 @@ pub enum Command {
         /// The process.
         process: Pid,
     },
-    /// Whether a process is living.
+    /// The state of a process: living or not.
     IsAlive {
         /// The process.
         process: Pid,
+    },
+    /// A process takes a name at its node, as by `register/2`.
+    Register {
+        /// The process.
+        process: Pid,
+        /// The name.
+        name: Atom,
+    },
+    /// A process gives its name up, as by `unregister/1`.
+    Unregister {
+        /// The process.
+        process: Pid,
+    },
+    /// The process that has a name, as by `whereis/1`.
+    WhereIs {
+        /// The name.
+        name: Atom,
     },
 }

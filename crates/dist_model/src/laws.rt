@@ -46,7 +46,7 @@ ghost use Rattle.dist_model.specs.Keeping.{Bearings, ComesOfOthers, CountsOwn, I
 ghost use Rattle.dist_model.specs.Work.{Work, at_work};
 ghost use Rattle.dist_model.specs.Seen.{end_between, AreConnected};
 ghost use Rattle.dist_model.specs.Schedules as schedule;
-ghost use Rattle.dist_model.specs.Claims.{Agreement, AgreementWithin, AgreementInQuiet, PendingOnItsWay, PendingWithin, NoLinkToTheDead, NoLinkToItself, LinkNeedsConnection, LivingMeans, SpawnedLivesOrEnded, DownHoldsNothing, OneTrunk, NoUpBesideLosing, IntroductionsAreTold, IntroductionsAreKnown, ConnectedKnow, PayloadIsAgreed, NoneOfTheFuture, KnownForGood, EventIsLocal, KeepsOrder, KeepsOwnOrder, EverySignalFits, EverySignalFitsWithin};
+ghost use Rattle.dist_model.specs.Claims.{Agreement, AgreementWithin, AgreementInQuiet, PendingOnItsWay, PendingWithin, NoLinkToTheDead, NoLinkToItself, LinkNeedsConnection, LivingMeans, NamesAreOfTheLiving, SpawnedLivesOrEnded, DownHoldsNothing, OneTrunk, NoUpBesideLosing, IntroductionsAreTold, IntroductionsAreKnown, ConnectedKnow, PayloadIsAgreed, NoneOfTheFuture, KnownForGood, EventIsLocal, KeepsOrder, KeepsOwnOrder, EverySignalFits, EverySignalFitsWithin};
 ghost use Rattle.dist_model.specs.Histories.{Throughout, told, history};
 ghost use Rattle.dist_model.specs.Causes.{Reacts};
 ghost use Rattle.dist_model.specs.Fates.{ReactsRightly, DownsRightly, ReactsForTrueCause, ExitsTellTrueCause, ExitsTellTrueCauseWithin, AnsweredOnce, DownOnce, DownToTheOwner, NoDownWhereDemonitored, DownsTellTrueCause, DownOrRegistered};
@@ -398,10 +398,17 @@ pub fn arrival_is_taken()
         IsAccepted (at_node names node (event.Arrive trunk (Some item) word)) }
 {}
 
+/// Proves that each registered name is of a living process of its node, and that no process has two
+/// names. (Reference Manual, Processes, Registered Processes.)
+pub fn names_are_of_the_living()
+    ensures { Always NamesAreOfTheLiving }
+{}
+
 /// Proves that a new node is steady and that every event keeps it so. Of its sides towards one
 /// peer, at most one dials, has accepted, is up or is losing, and at most one is an attempt that is
-/// not up yet. Its links and its monitors belong to living processes. (ERTS User's Guide,
-/// Distribution Protocol, Distribution Handshake; Reference Manual, Processes, Links and Monitors.)
+/// not up yet. Its links, its monitors and its names belong to living processes, and a process has at
+/// most one name. (ERTS User's Guide, Distribution Protocol, Distribution Handshake; Reference Manual,
+/// Processes, Registered Processes, Links and Monitors.)
 pub fn nodes_stay_steady()
     ensures new { (name : Name) (setup : Setup) → Steady (new_node name setup) }
     ensures kept { (names : List Name) (node : Node) (now : event.NodeEvent) (answer : Answer) (work : Work) →

@@ -1,4 +1,4 @@
-//! What a node answers to an event, and what the event brought about.
+//! The answer of a node to an event, and the effects of the event.
 
 use crate::links::Links;
 use conn_core::Fault;
@@ -40,7 +40,7 @@ pub enum Kind {
     UnlinkAck,
 }
 
-/// A record that a sweep takes.
+/// A record that a sweep removes.
 #[derive(Clone, Copy, Debug, PartialEq, Eq)]
 pub enum Swept {
     /// A link to a process beyond the lost connection.
@@ -56,25 +56,27 @@ pub enum Swept {
 /// The answer of a node to an event that it accepts.
 #[derive(Debug, Drop)]
 pub enum Answer {
-    /// It is done.
+    /// Success, with no other value.
     Done,
-    /// The process that was spawned.
+    /// The new process.
     Pid(Pid),
     /// The reference of the monitor.
     Reference(Reference),
-    /// The message that was taken out, if there was one.
+    /// The message out of the mailbox, if there was one.
     Message(Option<Payload>),
     /// The links of the process.
     Links(Links),
-    /// Whether the process is living.
+    /// The state of the process: true if it is living.
     Alive(bool),
-    /// The connection that was dialed.
+    /// The process that has the name, if there is one.
+    Holder(Option<Pid>),
+    /// The new connection that the node has dialed.
     Trunk(TrunkId),
-    /// An item of this kind was taken.
+    /// The kind of the item that the node has taken.
     Took(Kind),
-    /// What came broke the side of the connection.
+    /// The fault that broke the side of the connection.
     Broken(Fault),
-    /// What was swept.
+    /// The record that the node has swept.
     Swept(Swept),
     /// The node has stopped.
     Stopped,
@@ -82,10 +84,10 @@ pub enum Answer {
     Started(u32),
 }
 
-/// An effect of an event. `Item` is what travels: the item of the model, or its bytes.
+/// An effect of an event. `Item` is the type of an item in flight: the item of the model, or its bytes.
 #[derive(Debug, Drop)]
 pub enum Effect<Item> {
-    /// A message was put into the mailbox of a process.
+    /// A message that came into the mailbox of a process.
     Put {
         /// The process.
         to: Pid,
@@ -96,7 +98,7 @@ pub enum Effect<Item> {
     Ended {
         /// The process.
         process: Pid,
-        /// Why.
+        /// The exit reason.
         reason: Payload,
     },
     /// A process reacted to the exit of its link.
@@ -105,16 +107,16 @@ pub enum Effect<Item> {
         process: Pid,
         /// Its partner.
         partner: Pid,
-        /// The reason that it was told.
+        /// The reason of the exit.
         reason: Payload,
     },
-    /// An item was sent.
+    /// An item that the node has sent.
     Sent {
-        /// The connection; None where it was put into the node's own list.
+        /// The connection. [`None`] for an item from the node to itself.
         trunk: Option<TrunkId>,
-        /// The node that it is sent to.
+        /// The receiving node.
         peer: NodeName,
-        /// What was sent.
+        /// The item.
         item: Item,
     },
 }
@@ -124,6 +126,6 @@ pub enum Effect<Item> {
 pub struct Report<Item> {
     /// The answer.
     pub answer: Answer,
-    /// What it brought about, in the order in which it happened.
+    /// The effects, in the order in which they happened.
     pub effects: Vec<Effect<Item>>,
 }

@@ -109,6 +109,8 @@ module _ (peer : Name) (id : ℕ) where
   links_kept : (c : Change) (ends : FinMap pair_cmp End) → changes_towards peer c ≡ false → Unlinked ends → Unlinked (ends_after c ends)
   links_kept change.None ends t h = h
   links_kept change.Spawns ends t h = h
+  links_kept (change.TakesName naming) ends t h = h
+  links_kept (change.GivesName p) ends t h = h
   links_kept (change.Of p e l) ends t h = left_kept l p (end_after e p ends) (end_kept e p ends t h)
 
 -- ---- a plan

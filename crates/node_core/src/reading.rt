@@ -26,11 +26,11 @@ use node_tables::{Life, Which};
 use std::alloc::{AllocError, Global};
 
 impl Node {
-    /// A node of this name that runs, in its first incarnation. (Reference Manual, Distributed
-    /// Erlang, Nodes.)
+    /// Returns a running node of `name` and `setup`, in its first incarnation. (Reference Manual,
+    /// Distributed Erlang, Nodes.)
     ///
     /// # Errors
-    /// Where there is no memory for the name.
+    /// [`AllocError`] if out of memory.
     pub fn new(alloc: Global, name: NodeName, setup: Setup) -> Result<Node, AllocError>
         ensures { IfOk result (λ node. model_of node ≡ new_node name setup) }
     {
@@ -40,7 +40,7 @@ impl Node {
         })
     }
 
-    /// The name of the node.
+    /// Returns the name of the node.
     pub fn name(&self) -> &NodeName
         ensures { result.now ≡ (model_of self.now).mint.name }
     {
@@ -54,7 +54,7 @@ impl Node {
         self.state.is_up()
     }
 
-    /// The creation of its incarnation. (ERTS User's Guide, Distribution Protocol, Distribution
+    /// Returns the creation of its incarnation. (ERTS User's Guide, Distribution Protocol, Distribution
     /// Handshake, on creations.)
     pub fn creation(&self) -> u32
         ensures { result ≡ (model_of self.now).mint.creation }
@@ -62,19 +62,27 @@ impl Node {
         self.state.mint().creation().number()
     }
 
-    /// Returns the number of processes that its incarnation has spawned: their ids are 1 to this.
+    /// Returns the number of processes that its incarnation has spawned. Their ids are 1 to that number.
     pub fn spawned(&self) -> u32
         ensures { result ≡ (model_of self.now).mint.pids }
     {
         self.state.mint().pids()
     }
 
-    /// Returns the life of a process that is living or has ended for a reason. [`None`] if there is
-    /// none. (Reference Manual, Processes.)
+    /// Returns the life of a process: living, or ended for a reason. [`None`] if there is none. (Reference
+    /// Manual, Processes.)
     pub fn life(&self, process: &Pid) -> Option<&Life>
         ensures { fm.get (model_of self.now).lives process.now ≡ option_map life_of (option_copied result) }
     {
         self.state.life(process)
+    }
+
+    /// Returns the process that has a registered name. Takes time logarithmic in the number of names.
+    /// (Reference Manual, Processes, Registered Processes.)
+    pub fn holder(&self, name: &Atom) -> Option<&Pid>
+        ensures { option_copied result ≡ fm.get (model_of self.now).names name.now }
+    {
+        self.state.holder(name)
     }
 
     /// Returns true if a process is living here.
@@ -84,8 +92,8 @@ impl Node {
         self.state.is_living(process)
     }
 
-    /// The end that a process has of its link to a partner. (ERTS User's Guide, Distribution Protocol,
-    /// New Link Protocol.)
+    /// Returns the end that a process has of its link to a partner. (ERTS User's Guide, Distribution
+    /// Protocol, New Link Protocol.)
     pub fn end(&self, process: &Pid, partner: &Pid) -> End
         ensures { result ≡ end_of (model_of self.now) process.now partner.now }
     {
@@ -99,33 +107,33 @@ impl Node {
         self.state.has_nothing_between(p, q)
     }
 
-    /// Returns the side of a connection. One that is gone stands for others that are gone too, and its own
-    /// connection may be one of those. (ERTS User's Guide, Distribution Protocol.)
+    /// Returns the side of the connection `trunk`. A side that is gone may stand for several connections, so
+    /// its own `trunk` may be another one that is gone. (ERTS User's Guide, Distribution Protocol.)
     pub fn side(&self, trunk: &TrunkId) -> Option<&Side>
         ensures { option_map side_of (option_copied result) ≡ fm.get (model_of self.now).sides trunk.now }
     {
         self.state.side(trunk)
     }
 
-    /// Returns true if bytes that come on a connection begin with a whole item of the node's side of it, or
-    /// with a front that is none. Then [`Node::arrive`] asks for no more of them. A node without a side
-    /// reads as the one that is dialed. One whose side is lost or gone reads nothing, so it asks for none.
-    /// Allocates nothing. (ERTS User's Guide, Distribution Protocol, Distribution Handshake and Protocol
-    /// between Connected Nodes.)
+    /// Returns true if `bytes`, which come on `trunk`, begin with a whole item for the node's side, or with a
+    /// front of no item. Then [`Node::arrive`] asks for no more of them. A node without a side reads as the
+    /// dialed node does. One whose side is lost or gone reads nothing, and asks for no bytes. Never
+    /// allocates. (ERTS User's Guide, Distribution Protocol, Distribution Handshake and Protocol between
+    /// Connected Nodes.)
     pub fn whole(&self, trunk: &TrunkId, bytes: &[u8]) -> bool
         ensures { IsTrue result ↔ IsWhole (fm.get (model_of self.now).sides trunk.now) bytes.now }
     {
         is_whole(&self.state, trunk, bytes)
     }
 
-    /// The connection that is up to a peer.
+    /// Returns the connection that is up to a peer, if there is one.
     pub fn route(&self, peer: &Atom) -> Option<&TrunkId>
         ensures { option_copied result ≡ route (model_of self.now) peer.now }
     {
         self.state.route(peer)
     }
 
-    /// The first connection to a peer, or attempt at one, that stands in the way that is sought.
+    /// Returns the first connection to `peer`, or attempt at one, that passes `which`.
     pub fn first_towards(&self, peer: &Atom, which: Which) -> Option<&TrunkId>
         ensures { option_copied result ≡ option_map (λ entry. entry.0) (side_where (passes which) peer.now (fm.entries (model_of self.now).sides)) }
     {

@@ -2,12 +2,13 @@
 use Rattle.std.proofs.Common.{◌≡◌, ℕ, Option, None, Some, Bool, true, false, not, is_some}
 use Rattle.std.proofs.Common.{List, nat_lt, ◌+◌, ◌^◌, ◌&&◌, if◌then◌else◌, refl, sym, ap}
 use Rattle.std.specs.FinMap as fm
-use Rattle.dist_model.specs.Calls.{call}
+use Rattle.dist_model.specs.Calls.{call, is_undefined}
 use Rattle.dist_model.specs.Commands.{Accepts, Outcome, Refuses, with_id}
 use Rattle.dist_model.specs.Dialing.{has_name, next_trunk}
 use Rattle.dist_model.specs.Losses.{lose, lose_at}
 use Rattle.dist_model.specs.Monitoring.{demonitor_by}
 use Rattle.dist_model.specs.Names.{Name, same_name, same_pid}
+use Rattle.dist_model.specs.Naming.{name_of}
 use Rattle.dist_model.specs.Node.{Node, end_of, ends_of, is_stranger, living, side_where}
 use Rattle.dist_model.specs.NodeEvents as model
 use Rattle.dist_model.specs.NodeEvents.{at_node}
@@ -29,7 +30,7 @@ use Rattle.link_core.specs.Table.{is_active}
 use Rattle.link_core.specs.declared.end.End.{End}
 use Rattle.monitor_core.specs.declared.monitor.Watch.{Watch}
 use Rattle.node_history.specs.Acts.{is_act}
-use Rattle.node_history.specs.Spares.{AreLinksFor, AreLinksOf, Fills, message_for, message_of}
+use Rattle.node_history.specs.Spares.{AreLinksFor, AreLinksOf, Fills, holder_for, holder_of, message_for, message_of}
 use Rattle.node_history.specs.declared.spare.Spare.{Spare}
 use Rattle.node_core.specs.NodeEvents.{met}
 use Rattle.node_core.specs.declared.node_event.NodeEvent.{NodeEvent}
@@ -79,46 +80,53 @@ module _ (spare : Spare) where
         (if same_name q.node m.mint.name && is_stranger m q then Refuses Refusal.Forged else o) else Refuses Refusal.NoSuchProcess)
     towards p q o h = acted p _ (unless (same_name q.node m.mint.name && is_stranger m q) Refusal.Forged o h)
 
-    called : (asked : Command) → spare.message ≡ message_of m asked → AreLinksOf spare.links m asked → m.up ≡ true
+    called : (asked : Command) → spare.message ≡ message_of m asked → spare.holder ≡ holder_of m asked → AreLinksOf spare.links m asked → m.up ≡ true
         → Fills spare (call m asked)
-    called command.Spawn message links up =
+    called command.Spawn message holder links up =
         by_id (id_of m.mint kind.Pid) _
         (λ id. ap (λ n. Answer.Pid (record { node = n; creation = m.mint.creation; id = id; serial = 0 })) atom)
-    called (command.Send p q term) message links up = towards p q _ (only_if (fits term) Refusal.TooLong _ refl)
-    called (command.Link p q) message links up = towards p q _ refl
-    called (command.Unlink p q) message links up =
+    called (command.Send p q term) message holder links up = towards p q _ (only_if (fits term) Refusal.TooLong _ refl)
+    called (command.Link p q) message holder links up = towards p q _ refl
+    called (command.Unlink p q) message holder links up =
         towards p q _ (either_way (is_active (end_of m p q)) _ _ (by_id (id_of m.mint kind.UnlinkId) _ (λ id. refl)) refl)
-    called (command.Monitor p q) message links up =
+    called (command.Monitor p q) message holder links up =
         towards p q _ (by_id (id_of m.mint kind.Reference) _
         (λ count. ap (λ n. Answer.Reference (record (reference_of m.mint count) { node = n })) atom))
-    called (command.Demonitor p r) message links up = acted p _ (watched (fm.get m.watches r) p r (at_work m))
-    called (command.Trap p on) message links up = acted p _ refl
-    called (command.ExitTo p q reason) message links up = towards p q _ (only_if (fits reason) Refusal.TooLong _ refl)
-    called (command.ExitSelf p reason) message links up = acted p _ (only_if (fits reason) Refusal.TooLong _ refl)
-    called (command.Receive p) message links up = acted p _ (ap (λ x. Answer.Message x) message)
-    called (command.LinksOf p) message links up =
+    called (command.Demonitor p r) message holder links up = acted p _ (watched (fm.get m.watches r) p r (at_work m))
+    called (command.Trap p on) message holder links up = acted p _ refl
+    called (command.ExitTo p q reason) message holder links up = towards p q _ (only_if (fits reason) Refusal.TooLong _ refl)
+    called (command.ExitSelf p reason) message holder links up = acted p _ (only_if (fits reason) Refusal.TooLong _ refl)
+    called (command.Receive p) message holder links up = acted p _ (ap (λ x. Answer.Message x) message)
+    called (command.LinksOf p) message holder links up =
         if_living (living m p) (living m p) Refusal.NoSuchProcess _ refl (λ is. ap (λ x. Answer.Links x) (links up is))
-    called (command.IsAlive p) message links up = refl
+    called (command.IsAlive p) message holder links up = refl
+    called (command.Register p name) message holder links up =
+        acted p _ (unless (is_undefined name) Refusal.BadName _
+        (unless (is_some (fm.get m.names name)) Refusal.NameTaken _
+        (unless (is_some (name_of m.names p)) Refusal.HasName _ refl)))
+    called (command.Unregister p) message holder links up =
+        acted p _ (only_if (is_some (name_of m.names p)) Refusal.NoName _ refl)
+    called (command.WhereIs name) message holder links up = ap (λ x. Answer.Holder x) holder
 
     if_up : (u : Bool) (o : Outcome) → m.up ≡ u → (m.up ≡ true → Fills spare o) → Fills spare (if u then o else Refuses Refusal.NodeDown)
     if_up true o is h = h is
     if_up false o is h = tt
 
-    pub fills : (names : List Name) (what : NodeEvent) → is_act what ≡ true → spare.message ≡ message_for m what
+    pub fills : (names : List Name) (what : NodeEvent) → is_act what ≡ true → spare.message ≡ message_for m what → spare.holder ≡ holder_for m what
         → AreLinksFor spare.links m what
         → Fills spare (at_node names m (met what None))
-    fills names (event.Call asked) act message links = if_up m.up _ refl (called asked message links)
-    fills names (event.Lose trunk) act message links = if_up m.up _ refl (λ up. lost m trunk (fm.get m.sides trunk))
-    fills names (event.Dial peer word) act message links = if_up m.up _ refl (λ up.
+    fills names (event.Call asked) act message holder links = if_up m.up _ refl (called asked message holder links)
+    fills names (event.Lose trunk) act message holder links = if_up m.up _ refl (λ up. lost m trunk (fm.get m.sides trunk))
+    fills names (event.Dial peer word) act message holder links = if_up m.up _ refl (λ up.
         unless (same_name peer m.mint.name) Refusal.SelfDial _
         (unless (not (has_name peer names)) Refusal.NothingThere _
         (unless (is_some (side_where (λ state. not (is_gone state)) peer (fm.entries m.sides))) Refusal.Busy _
         (unless (not (nat_lt (m.dialed + 1) (2 ^ 64))) Refusal.IdsUsedUp _
         (ap (λ n. Answer.Trunk (record (next_trunk m) { dialer = n })) name)))))
-    fills names event.Stop act message links = if_up m.up _ refl (λ up. refl)
-    fills names event.Start act message links =
+    fills names event.Stop act message holder links = if_up m.up _ refl (λ up. refl)
+    fills names event.Start act message holder links =
         unless m.up Refusal.NodeUp _ (only_if (nat_lt (m.mint.creation + 1) (2 ^ 32)) Refusal.IdsUsedUp _ refl)
-    fills names _ act message links = absurd (let no : false ≡ true = act in cc)
+    fills names _ act message holder links = absurd (let no : false ≡ true = act in cc)
 
 -- ---- a look at the links of a process changes nothing
 

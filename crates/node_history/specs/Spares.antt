@@ -1,4 +1,4 @@
--- What of a node's answer to an act takes memory, and is known before the act.
+-- The allocated parts of a node's answer to an act, as they are known before the act.
 use Rattle.std.specs.Prelude.{◌≡◌, true, Option, None, List}
 use Rattle.std.specs.FinMap as fm
 use Rattle.dist_model.specs.Calls.{first_message}
@@ -23,6 +23,15 @@ abbrev pub message_for : Node → NodeEvent → Option Data
 message_for m (event.Call asked) = message_of m asked
 message_for m _ = None
 
+-- the process that has the name in the command
+abbrev pub holder_of : Node → Command → Option Pid
+holder_of m (command.WhereIs name) = fm.get m.names name
+holder_of m _ = None
+
+abbrev pub holder_for : Node → NodeEvent → Option Pid
+holder_for m (event.Call asked) = holder_of m asked
+holder_for m _ = None
+
 abbrev pub AreLinksOf : List (Pid × End) → Node → Command → Type 0
 AreLinksOf links m (command.LinksOf process) = m.up ≡ true → living m process ≡ true → links ≡ ends_of m process
 AreLinksOf links m _ = Unit {0}
@@ -31,16 +40,17 @@ abbrev pub AreLinksFor : List (Pid × End) → Node → NodeEvent → Type 0
 AreLinksFor links m (event.Call asked) = AreLinksOf links m asked
 AreLinksFor links m _ = Unit {0}
 
--- an answer, with its names, its message and its links taken from what is there already
+-- an answer, with its names, its message, its links and its process taken from the spare
 abbrev pub filled : Spare → Answer → Answer
 filled spare (answer.Pid pid) = answer.Pid (record pid { node = spare.atom })
 filled spare (answer.Reference reference) = answer.Reference (record reference { node = spare.atom })
 filled spare (answer.Message message) = answer.Message spare.message
 filled spare (answer.Links links) = answer.Links spare.links
+filled spare (answer.Holder holder) = answer.Holder spare.holder
 filled spare (answer.Trunk trunk) = answer.Trunk (record trunk { dialer = spare.name })
 filled spare said = said
 
--- that is the answer itself
+-- the filled answer is the answer itself
 abbrev pub Fills : Spare → Outcome → Type 0
 Fills spare (Refuses e) = Unit {0}
 Fills spare (Accepts said work) = filled spare said ≡ said

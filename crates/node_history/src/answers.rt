@@ -1,4 +1,4 @@
-//! Whether two answers are the same.
+//! The comparison of two answers.
 ghost use Rattle.std.specs.Prelude.{◌≡◌, ◌↔◌, IsTrue};
 ghost use Rattle.std.specs.Option.{option_copied};
 
@@ -68,6 +68,16 @@ fn is_same_message(a: Option<&Payload>, b: Option<&Payload>) -> bool
     }
 }
 
+fn is_same_holder(a: Option<&Pid>, b: Option<&Pid>) -> bool
+    ensures { IsTrue result ↔ (option_copied a.entry ≡ option_copied b.entry) }
+{
+    match (a, b) {
+        (None, None) => true,
+        (Some(a), Some(b)) => a.is_same(b),
+        _ => false,
+    }
+}
+
 pub(crate) fn is_same_said(a: &Answer, b: &Answer) -> bool
     ensures { IsTrue result ↔ (a.now ≡ b.now) }
 {
@@ -82,6 +92,9 @@ pub(crate) fn is_same_said(a: &Answer, b: &Answer) -> bool
         }
         (Answer::Links(links), Answer::Links(other)) => are_same_links(links, other),
         (Answer::Alive(is_living), Answer::Alive(other)) => is_living == other,
+        (Answer::Holder(holder), Answer::Holder(other)) => {
+            is_same_holder(holder.as_ref(), other.as_ref())
+        }
         (Answer::Trunk(trunk), Answer::Trunk(other)) => is_same_trunk(trunk, other),
         (Answer::Took(kind), Answer::Took(other)) => is_same_kind(*kind, *other),
         (Answer::Broken(fault), Answer::Broken(other)) => is_same_fault(*fault, *other),

@@ -1,10 +1,10 @@
-//! Whether two commands are the same.
+//! The comparison of two commands.
 ghost use Rattle.std.specs.Prelude.{◌≡◌, ◌↔◌, IsTrue};
 
 use crate::terms::{is_same_payload, is_same_reference};
 use dist_model::Command;
 
-/// Whether the two ask for the same.
+/// Returns true if `a` and `b` are the same command.
 pub(crate) fn is_same_command(a: &Command, b: &Command) -> bool
     ensures { IsTrue result ↔ (a.now ≡ b.now) }
 {
@@ -77,6 +77,17 @@ pub(crate) fn is_same_command(a: &Command, b: &Command) -> bool
         (Command::IsAlive { process }, Command::IsAlive { process: other }) => {
             process.is_same(other)
         }
+        (
+            Command::Register { process, name },
+            Command::Register {
+                process: other,
+                name: taken,
+            },
+        ) => process.is_same(other) && name == taken,
+        (Command::Unregister { process }, Command::Unregister { process: other }) => {
+            process.is_same(other)
+        }
+        (Command::WhereIs { name }, Command::WhereIs { name: other }) => name == other,
         _ => false,
     }
 }

@@ -1,4 +1,4 @@
-//! Copies of what a history keeps.
+//! Copies of commands, effects and events.
 ghost use Rattle.std.specs.Prelude.{◌≡◌, IfOk};
 ghost use Rattle.std.specs.Option.{option_copied};
 
@@ -9,14 +9,14 @@ use node_core::NodeEvent;
 use node_frames::Frame;
 use std::alloc::{AllocError, Global};
 
-// Copies of two processes.
+// Returns copies of two processes.
 fn two(first: &Pid, second: &Pid) -> Result<(Pid, Pid), AllocError>
     ensures { IfOk result (λ two. two ≡ (first.now, second.now)) }
 {
     Ok((first.clone()?, second.clone()?))
 }
 
-// The same, with what one says to the other.
+// Returns copies of two processes, and of a message or a reason.
 fn two_and(
     alloc: Global,
     first: &Pid,
@@ -28,10 +28,10 @@ fn two_and(
     Ok((first.clone()?, second.clone()?, said.copy(alloc)?))
 }
 
-/// A copy of a command.
+/// Returns a copy of a command.
 ///
 /// # Errors
-/// Where there is no memory for it.
+/// [`AllocError`] if out of memory.
 pub(crate) fn copied(alloc: Global, command: &Command) -> Result<Command, AllocError>
     ensures { IfOk result (λ copy. copy ≡ command.now) }
 {
@@ -78,10 +78,20 @@ pub(crate) fn copied(alloc: Global, command: &Command) -> Result<Command, AllocE
         Command::IsAlive { process } => Ok(Command::IsAlive {
             process: process.clone()?,
         }),
+        Command::Register { process, name } => Ok(Command::Register {
+            process: process.clone()?,
+            name: name.clone()?,
+        }),
+        Command::Unregister { process } => Ok(Command::Unregister {
+            process: process.clone()?,
+        }),
+        Command::WhereIs { name } => Ok(Command::WhereIs {
+            name: name.clone()?,
+        }),
     }
 }
 
-// A copy of what an event brought about.
+// Returns a copy of an effect.
 fn copied_effect(alloc: Global, effect: &Effect<Frame>) -> Result<Effect<Frame>, AllocError>
     ensures { IfOk result (λ copy. copy ≡ effect.now) }
 {
@@ -120,10 +130,10 @@ fn copied_trunk(trunk: Option<&TrunkId>) -> Result<Option<TrunkId>, AllocError>
     }
 }
 
-/// Copies of what an event brought about, in order.
+/// Returns copies of the effects of an event, in order.
 ///
 /// # Errors
-/// Where there is no memory for them.
+/// [`AllocError`] if out of memory.
 pub(crate) fn copied_effects(
     alloc: Global,
     effects: &[Effect<Frame>],
@@ -137,10 +147,10 @@ pub(crate) fn copied_effects(
     Ok(copies)
 }
 
-/// A copy of an event.
+/// Returns a copy of an event.
 ///
 /// # Errors
-/// Where there is no memory for it.
+/// [`AllocError`] if out of memory.
 pub fn copied_event(alloc: Global, event: &NodeEvent) -> Result<NodeEvent, AllocError>
     ensures { IfOk result (λ copy. copy ≡ event.now) }
 {

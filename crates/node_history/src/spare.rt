@@ -1,4 +1,4 @@
-//! What of a node's answer takes memory is made before the event.
+//! The allocated parts of a node's answer, made before the event.
 ghost use Rattle.std.specs.Prelude.{◌≡◌, IfErr, IfOk, List, None, OnOk, true};
 ghost use Rattle.std.specs.FinMap as fm;
 ghost use Rattle.dist_model.specs.Calls.{first_message};
@@ -10,7 +10,7 @@ ghost use Rattle.erl_term.specs.declared.term.Pid.{Pid as ThePid};
 ghost use Rattle.link_core.specs.declared.end.End.{End as TheEnd};
 ghost use Rattle.erl_term.specs.declared.refusal.Refusal.TheVariants as refusal;
 ghost use Rattle.node_core.specs.Model.{model_of};
-ghost use Rattle.node_history.specs.Spares.{AreLinksFor, AreLinksOf, Fills, filled, message_for, message_of};
+ghost use Rattle.node_history.specs.Spares.{AreLinksFor, AreLinksOf, Fills, filled, holder_for, holder_of, message_for, message_of};
 ghost use Rattle.node_history.specs.Acts.{is_act};
 ghost use Rattle.node_core.specs.NodeEvents.{met};
 
@@ -21,17 +21,18 @@ use node_core::{Node, NodeEvent};
 use node_tables::Life;
 use std::alloc::{AllocError, Global};
 
-/// What of a node's answer to an act takes memory: the name of the node, the message that a process
-/// takes, and its links.
+/// The allocated parts of a node's answer to an act: the name of the node, the message that a process
+/// receives, its links, and the process that has a name.
 #[derive(Drop)]
 pub(crate) struct Spare {
     atom: Atom,
     name: NodeName,
     message: Option<Payload>,
     links: Links,
+    holder: Option<Pid>,
 }
 
-// The message that a process would take.
+// Returns a copy of the oldest message of a process, if there is one.
 fn first_message(alloc: Global, node: &Node, process: &Pid) -> Result<Option<Payload>, AllocError>
     ensures { IfOk result (λ m. m ≡ first_message (fm.get (model_of node.now).lives process.now)) }
 {
@@ -54,7 +55,7 @@ fn message_of(alloc: Global, node: &Node, command: &Command) -> Result<Option<Pa
     }
 }
 
-// The message that an act takes.
+// Returns a copy of the message that an act takes out of a mailbox, if it does.
 fn message_for(alloc: Global, node: &Node, event: &NodeEvent) -> Result<Option<Payload>, AllocError>
     ensures { IfOk result (λ m. m ≡ message_for (model_of node.now) event.now) }
 {
@@ -70,7 +71,7 @@ fn no_links(alloc: Global) -> Links {
     }
 }
 
-// The links that a look at a process answers.
+// Returns the links of an answer, or no links if it has none.
 fn links_in(alloc: Global, answer: Answer) -> Links
     ensures { (links : List (ThePid × TheEnd)) → answer ≡ said.Links links → result ≡ links }
 {
@@ -83,7 +84,7 @@ fn links_in(alloc: Global, answer: Answer) -> Links
     }
 }
 
-// What a look that is refused answers: no links, unless memory was wanting.
+// Returns no links for a refused query, or an error if it was out of memory.
 fn unless_wanting(alloc: Global, why: Refusal) -> Result<Links, Refusal>
     ensures ok { OnOk result (why ≡ refusal.OutOfMemory → ⊥) }
     ensures err { IfErr result (λ e. e ≡ refusal.OutOfMemory) }
@@ -94,7 +95,7 @@ fn unless_wanting(alloc: Global, why: Refusal) -> Result<Links, Refusal>
     }
 }
 
-// The links of a process. The node stays as it is.
+// Returns the links of a process. The node stays unchanged.
 fn looked_up(alloc: Global, node: &mut Node, process: &Pid) -> Result<Links, Refusal>
     ensures same { model_of node.new ≡ model_of node.old }
     ensures links { IfOk result (λ links. AreLinksOf links (model_of node.old) (asked.LinksOf process.now)) }
@@ -120,7 +121,7 @@ fn links_of(alloc: Global, node: &mut Node, command: &Command) -> Result<Links, 
     }
 }
 
-// The links that an act looks at.
+// Returns the links that an act asks for, if it does. The node stays unchanged.
 fn links_for(alloc: Global, node: &mut Node, event: &NodeEvent) -> Result<Links, Refusal>
     ensures same { model_of node.new ≡ model_of node.old }
     ensures links { IfOk result (λ links. AreLinksFor links (model_of node.old) event.now) }
@@ -129,6 +130,35 @@ fn links_for(alloc: Global, node: &mut Node, event: &NodeEvent) -> Result<Links,
     match event {
         NodeEvent::Call(command) => links_of(alloc, node, command),
         _ => Ok(no_links(alloc)),
+    }
+}
+
+// Returns a copy of the process that has a name.
+fn copied_holder(node: &Node, name: &Atom) -> Result<Option<Pid>, AllocError>
+    ensures { IfOk result (λ holder. holder ≡ fm.get (model_of node.now).names name.now) }
+{
+    match node.holder(name) {
+        Some(process) => Ok(Some(process.clone()?)),
+        None => Ok(None),
+    }
+}
+
+fn holder_of(node: &Node, command: &Command) -> Result<Option<Pid>, AllocError>
+    ensures { IfOk result (λ holder. holder ≡ holder_of (model_of node.now) command.now) }
+{
+    match command {
+        Command::WhereIs { name } => copied_holder(node, name),
+        _ => Ok(None),
+    }
+}
+
+// Returns a copy of the process that an act asks for by its name.
+fn holder_for(node: &Node, event: &NodeEvent) -> Result<Option<Pid>, AllocError>
+    ensures { IfOk result (λ holder. holder ≡ holder_for (model_of node.now) event.now) }
+{
+    match event {
+        NodeEvent::Call(command) => holder_of(node, command),
+        _ => Ok(None),
     }
 }
 
@@ -142,10 +172,10 @@ fn words_again(words: &ReferenceWords) -> ReferenceWords
 }
 
 impl Spare {
-    /// What an act's answer takes. The node stays as it is.
+    /// Allocates the parts of the answer to the act `event`. The node stays unchanged.
     ///
     /// # Errors
-    /// Where there is no memory for it.
+    /// [`Refusal::OutOfMemory`] if out of memory.
     pub(crate) fn of(alloc: Global, node: &mut Node, event: &NodeEvent) -> Result<Spare, Refusal>
         requires { is_act event.now ≡ true }
         ensures same { model_of node.new ≡ model_of node.old }
@@ -155,16 +185,18 @@ impl Spare {
         let atom = node.name().atom().clone()?;
         let name = node.name().clone()?;
         let message = message_for(alloc, node, event)?;
+        let holder = holder_for(node, event)?;
         let links = links_for(alloc, node, event)?;
         Ok(Spare {
             atom,
             name,
             message,
             links,
+            holder,
         })
     }
 
-    /// The same answer again, of which the spare has what takes memory. Takes none.
+    /// Returns `answer` again, with its allocated parts taken from the spare. Never allocates.
     pub(crate) fn again(self, answer: &Answer) -> Answer
         ensures { result ≡ filled self answer.now }
     {
@@ -182,6 +214,7 @@ impl Spare {
             }),
             Answer::Message(_) => Answer::Message(self.into_message()),
             Answer::Links(_) => Answer::Links(self.into_links()),
+            Answer::Holder(_) => Answer::Holder(self.into_holder()),
             Answer::Trunk(trunk) => Answer::Trunk(TrunkId {
                 dialer: self.into_name(),
                 count: trunk.count,
@@ -196,7 +229,7 @@ impl Spare {
         }
     }
 
-    // An answer for which nothing of it is needed.
+    // Returns `answer`, and drops the spare.
     fn unused(self, answer: Answer) -> Answer
         ensures { result ≡ answer }
     {
@@ -204,7 +237,7 @@ impl Spare {
         answer
     }
 
-    // The name of the node as an atom, and nothing else.
+    // Returns the name of the node as an atom, and drops the rest.
     fn into_atom(self) -> Atom
         ensures { result ≡ self.atom }
     {
@@ -231,5 +264,12 @@ impl Spare {
     {
         let Spare { links, .. } = self;
         links
+    }
+
+    fn into_holder(self) -> Option<Pid>
+        ensures { result ≡ self.holder }
+    {
+        let Spare { holder, .. } = self;
+        holder
     }
 }

@@ -57,6 +57,8 @@ pub named_after : (c : Change) (d : Draws) (m : Minted) → ((drawn_by d (spawne
     × ((drawn_by d (spawned_by c m)).creation ≡ m.creation)
 named_after change.None draws.Nothing m = (refl, refl)
 named_after change.Spawns draws.Nothing m = (refl, refl)
+named_after (change.TakesName naming) draws.Nothing m = (refl, refl)
+named_after (change.GivesName p) draws.Nothing m = (refl, refl)
 named_after (change.Of p e l) draws.Nothing m = (refl, refl)
 named_after c d m = (refl, refl)
 

@@ -41,7 +41,7 @@ pub carries_report : (plan : Plan) (m : Node) (work : Work) (effect : Effect Ite
     → CarriesOut plan m work → SendsSpelled effect → OnOk told (effects.items ≡ plan.effects.items ++ shown effect ∷ [])
     → Carries m (report effect work) (record plan { effects = effects }) told
 carries_report plan m work effect effects (Ok done) h s e = record {
-  sound = record { suits = h.sound.suits; next = h.sound.next; sendable = h.sound.sendable };
+  sound = record { suits = h.sound.suits; named = h.sound.named; next = h.sound.next; sendable = h.sound.sendable };
   still = h.still;
   calm = h.calm;
   node = h.node;
@@ -130,7 +130,7 @@ module _ (plan : Plan) (m : Node) (work : Work) (letter : Addressed) (local : Ve
       record {
         still = h.still;
         calm = h.calm;
-        sound = record { suits = h.sound.suits; next = h.sound.next; sendable = sendable };
+        sound = record { suits = h.sound.suits; named = h.sound.named; next = h.sound.next; sendable = sendable };
         node = (λ i. record (h.node i) { local = more i });
         effects = f ∙ ap (λ xs. xs ++ Effect.Sent None m.mint.name (framed item) ∷ []) h.effects
             ∙ ap (λ x. map shown work.effects ++ Effect.Sent None x (framed item) ∷ []) (sym name_stays)
@@ -149,7 +149,7 @@ module _ (plan : Plan) (m : Node) (work : Work) (letter : Addressed) (local : Ve
     sent_on t f written = record {
       still = h.still;
       calm = h.calm;
-      sound = record { suits = h.sound.suits; next = h.sound.next; sendable = ap are_sendable l ∙ h.sound.sendable };
+      sound = record { suits = h.sound.suits; named = h.sound.named; next = h.sound.next; sendable = ap are_sendable l ∙ h.sound.sendable };
       node = (λ i. record (h.node i) { local = local_stays i });
       effects = f ∙ ap (λ xs. xs ++ shown (on t) ∷ []) h.effects ∙ sym (map_push shown work.effects (on t));
       spelled = spelled_push work.effects (on t) h.spelled written;
@@ -160,7 +160,7 @@ module _ (plan : Plan) (m : Node) (work : Work) (letter : Addressed) (local : Ve
     dropped f = record {
       still = h.still;
       calm = h.calm;
-      sound = record { suits = h.sound.suits; next = h.sound.next; sendable = ap are_sendable l ∙ h.sound.sendable };
+      sound = record { suits = h.sound.suits; named = h.sound.named; next = h.sound.next; sendable = ap are_sendable l ∙ h.sound.sendable };
       node = (λ i. record (h.node i) { local = local_stays i });
       effects = f ∙ h.effects;
       spelled = h.spelled;

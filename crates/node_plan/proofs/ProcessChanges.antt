@@ -6,6 +6,7 @@ use Rattle.std.specs.declared.alloc.AllocError.{AllocError}
 use Rattle.std.specs.declared.alloc.Global.{Global}
 use Rattle.std.specs.declared.vec.Vec.{Vec}
 use Rattle.dist_model.specs.Exits.{buried}
+use Rattle.dist_model.specs.Naming.{without_holder}
 use Rattle.dist_model.specs.Items.{Item}
 use Rattle.dist_model.specs.Node.{Ended, Life, Node, end_of, is_living_life, living}
 use Rattle.dist_model.specs.Work.{Work, delivered, put, set_end, set_in, set_life}
@@ -13,7 +14,7 @@ use Rattle.dist_model.specs.declared.report.Effect.{Effect}
 use Rattle.erl_term.specs.Data.{Data}
 use Rattle.erl_term.specs.declared.term.Pid.{Pid}
 use Rattle.monitor_core.specs.Left.{without_held, without_owner}
-use Rattle.node_plan.specs.Changed.{drawn_by, end_after, ends_after, lives_after, registered}
+use Rattle.node_plan.specs.Changed.{drawn_by, end_after, ends_after, lives_after, names_after, registered}
 use Rattle.node_plan.specs.Changed.{spawned_by, watched, watchers_left, watches_left}
 use Rattle.node_plan.specs.Parts.{link_in}
 use Rattle.node_plan.specs.declared.change.Change.{Change}
@@ -46,6 +47,9 @@ module _ (plan : Plan) (m : Node) (work : Work) (p : Pid) (h : CarriesOut plan m
   lives_is : work.node.lives ≡ m.lives
   lives_is = ap (λ (n : Node). n.lives) h.node ∙ by_cases (λ c. lives_after c m.mint m.lives ≡ m.lives) plan.change p free refl (λ e. refl)
 
+  names_is : work.node.names ≡ m.names
+  names_is = ap (λ (n : Node). n.names) h.node ∙ by_cases (λ c. names_after c m.names ≡ m.names) plan.change p free refl (λ e. refl)
+
   ends_is : work.node.ends ≡ end_after (link_in plan.change) p m.ends
   ends_is = ap (λ (n : Node). n.ends) h.node
       ∙ by_cases (λ c. ends_after c m.ends ≡ end_after (link_in c) p m.ends) plan.change p free refl (λ e. refl)
@@ -69,7 +73,7 @@ module _ (plan : Plan) (m : Node) (work : Work) (p : Pid) (h : CarriesOut plan m
         → n ≡ committed (after (change.Of p (link_in plan.change) l)) m
         → CarriesOut (after (change.Of p (link_in plan.change) l)) m (record { node = n; effects = work.effects ++ effect ∷ [] })
     becomes_it l effect n s e is = record {
-      sound = record { suits = alive; next = h.sound.next; sendable = h.sound.sendable };
+      sound = record { suits = alive; named = tt; next = h.sound.next; sendable = h.sound.sendable };
       still = h.still;
       calm = h.calm;
       node = is;
@@ -84,6 +88,7 @@ module _ (plan : Plan) (m : Node) (work : Work) (p : Pid) (h : CarriesOut plan m
         (becomes_it (life.Gets message) (Effect.Put p message) (put p message work).node tt e (λ i. record (h.node i) {
           mint = mint_is i;
           lives = set_life (lives_is i) p (delivered (fm.get (lives_is i) p) message);
+          names = names_is i;
           ends = ends_is i;
           watches = watches_is i;
           registered = registered_is i;
@@ -104,6 +109,7 @@ module _ (plan : Plan) (m : Node) (work : Work) (p : Pid) (h : CarriesOut plan m
         (becomes_it (life.Ends reason) (Effect.Ended p reason) (buried p reason work).node tt e (λ i. record (h.node i) {
           mint = mint_is i;
           lives = lives i;
+          names = without_holder (names_is i) p;
           ends = without_ends (ends_is i) p;
           watches = without_owner (watches_is i) p;
           registered = without_held (registered_is i) p;
@@ -118,12 +124,13 @@ carries_end plan m work p q how now (Ok done) h none alive c =
     let f : IsFree plan.change p = subst (λ k. IsFree k p) (sym none) tt in
     let ends : work.node.ends ≡ m.ends = ap (λ (n : Node). n.ends) h.node ∙ ap (λ k. ends_after k m.ends) none in
     subst (λ k. CarriesOut (record plan { change = k }) m (set_end p q (becomes how (end_of m p q)) work)) (sym c) (record {
-      sound = record { suits = alive; next = h.sound.next; sendable = h.sound.sendable };
+      sound = record { suits = alive; named = tt; next = h.sound.next; sendable = h.sound.sendable };
       still = h.still;
       calm = h.calm;
       node = (λ i. record (h.node i) {
         mint = mint_is plan m work p h f i;
         lives = lives_is plan m work p h f i;
+        names = names_is plan m work p h f i;
         ends = set_in (ends i) (p, q) (becomes how (end_of m p q));
         watches = watches_is plan m work p h f i;
         registered = registered_is plan m work p h f i;

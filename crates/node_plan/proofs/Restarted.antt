@@ -24,14 +24,32 @@ steady_stopped m s =
       ends = s.ends;
       owners = s.owners;
       bound = s.bound;
+      holders = s.holders;
+      one_name = s.one_name;
     } in
     let t : Steady (stopped (running m)) = steady_kept [] (running m) event.Stop Answer.Stopped (at_work (stopped (running m))) runs refl in
-    record { engaged = t.engaged; attempts = t.attempts; ends = t.ends; owners = t.owners; bound = t.bound }
+    record {
+      engaged = t.engaged;
+      attempts = t.attempts;
+      ends = t.ends;
+      owners = t.owners;
+      bound = t.bound;
+      holders = t.holders;
+      one_name = t.one_name;
+    }
 
 pub steady_started : (m : Node) → Steady m → Steady (started m)
 steady_started m s =
     let t = steady_stopped m s in
-    record { engaged = t.engaged; attempts = t.attempts; ends = t.ends; owners = t.owners; bound = t.bound }
+    record {
+      engaged = t.engaged;
+      attempts = t.attempts;
+      ends = t.ends;
+      owners = t.owners;
+      bound = t.bound;
+      holders = t.holders;
+      one_name = t.one_name;
+    }
 
 comes_of_none : (m : Node) → ComesOfOthers m event.Stop
 comes_of_none m t c d = no_item t c.0 c.1 c.2

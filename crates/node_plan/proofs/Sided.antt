@@ -41,7 +41,7 @@ module _ (plan : Plan) (m : Node) (work : Work) (h : Makes plan m work) where
       ap (side_changed change) sides_are ∙ sym (one_more plan.sides.items change m.sides) ∙ ap (λ xs. sides_after xs m.sides) (sym e) in
       let P : List SideChange → Type 0 = (λ xs. LetsAll xs m.sides) in
       record {
-        sound = record { suits = h.sound.suits; next = h.sound.next; sendable = h.sound.sendable };
+        sound = record { suits = h.sound.suits; named = h.sound.named; next = h.sound.next; sendable = h.sound.sendable };
         sides = subst P (sym e) (lets_more plan.sides.items change m.sides h.sides (subst (Lets change) sides_are l));
         dials = h.dials;
         node = (λ i. record (h.node i) { sides = more i });
@@ -53,7 +53,7 @@ module _ (plan : Plan) (m : Node) (work : Work) (h : Makes plan m work) where
       → OnOk told (effects.items ≡ plan.effects.items ++ shown effect ∷ []) → OnOk told (SendsSpelled effect)
       → MakesOr m (report effect work) (record plan { effects = effects }) told
   makes_report effect effects (Ok done) e s = record {
-    sound = record { suits = h.sound.suits; next = h.sound.next; sendable = h.sound.sendable };
+    sound = record { suits = h.sound.suits; named = h.sound.named; next = h.sound.next; sendable = h.sound.sendable };
     sides = h.sides;
     dials = h.dials;
     node = h.node;

@@ -1,9 +1,10 @@
--- What changes make of the parts of a node.
+-- The parts of a node after a change.
 use Rattle.std.specs.Prelude.{◌+◌, Bool, false, if◌then◌else◌, List, [], ◌∷◌}
 use Rattle.std.specs.FinMap as fm
 use Rattle.std.specs.FinMap.{FinMap}
 use Rattle.dist_model.specs.Calls.{first_message, trapping, without_first}
 use Rattle.dist_model.specs.Names.{pair_cmp}
+use Rattle.dist_model.specs.Naming.{NameMap, without_holder}
 use Rattle.dist_model.specs.Node.{Life}
 use Rattle.dist_model.specs.Node as model
 use Rattle.dist_model.specs.Sides.{TrunkSide}
@@ -35,7 +36,7 @@ use Rattle.node_plan.specs.declared.change.LinkChange.TheVariants as link
 use Rattle.node_plan.specs.declared.change.MonitorChange.{MonitorChange}
 use Rattle.node_plan.specs.declared.change.MonitorChange.TheVariants as monitor
 
--- ---- what is drawn
+-- ---- the draws
 
 abbrev pub drawn_by : Draws → Minted → Minted
 drawn_by draws.Nothing m = m
@@ -45,6 +46,8 @@ drawn_by draws.UnlinkId m = drawn m kind.UnlinkId
 abbrev pub spawned_by : Change → Minted → Minted
 spawned_by change.None m = m
 spawned_by change.Spawns m = drawn m kind.Pid
+spawned_by (change.TakesName naming) m = m
+spawned_by (change.GivesName p) m = m
 spawned_by (change.Of p e l) m = m
 
 -- ---- the processes: first an end changes, and then its process
@@ -59,13 +62,15 @@ life_after life.TakesFirst p lives = changed lives p without_first
 abbrev pub lives_after : Change → Minted → FinMap pid_cmp Life → FinMap pid_cmp Life
 lives_after change.None m lives = lives
 lives_after change.Spawns m lives = fm.insert lives (pid_of m (m.pids + 1)) (model.Living false [])
+lives_after (change.TakesName naming) m lives = lives
+lives_after (change.GivesName p) m lives = lives
 lives_after (change.Of p e l) m lives = life_after l p lives
 
 abbrev pub end_after : LinkChange → Pid → FinMap pair_cmp End → FinMap pair_cmp End
 end_after link.Stays p ends = ends
 end_after (link.Becomes q how) p ends = end_changed ends (p, q) how
 
--- what the end of a process leaves
+-- the ends that are left after a process has ended
 abbrev pub ends_left : LifeChange → Pid → FinMap pair_cmp End → FinMap pair_cmp End
 ends_left (life.Ends reason) p ends = without_ends ends p
 ends_left _ p ends = ends
@@ -73,7 +78,22 @@ ends_left _ p ends = ends
 abbrev pub ends_after : Change → FinMap pair_cmp End → FinMap pair_cmp End
 ends_after change.None ends = ends
 ends_after change.Spawns ends = ends
+ends_after (change.TakesName naming) ends = ends
+ends_after (change.GivesName p) ends = ends
 ends_after (change.Of p e l) ends = ends_left l p (end_after e p ends)
+
+-- ---- the names: a process takes or gives up its own, and one that ends loses it
+
+abbrev pub names_left : LifeChange → Pid → NameMap → NameMap
+names_left (life.Ends reason) p names = without_holder names p
+names_left _ p names = names
+
+abbrev pub names_after : Change → NameMap → NameMap
+names_after change.None names = names
+names_after change.Spawns names = names
+names_after (change.TakesName naming) names = fm.insert names naming.name naming.process
+names_after (change.GivesName p) names = without_holder names p
+names_after (change.Of p e l) names = names_left l p names
 
 -- ---- the monitors: first one comes or goes, and then those of a process that ends
 
@@ -95,7 +115,7 @@ abbrev pub watchers_left : Change → RegistrationMap → RegistrationMap
 watchers_left (change.Of p e (life.Ends reason)) watchers = without_held watchers p
 watchers_left _ watchers = watchers
 
--- ---- the own list: its first item is taken, and others come
+-- ---- the items in flight from the node to itself: the first one goes, and others come
 
 abbrev pub behind_first : {A : Type 0} → List A → List A
 behind_first [] = []
@@ -110,9 +130,9 @@ abbrev pub sides_after : List SideChange → FinMap trunk_cmp TrunkSide → FinM
 sides_after [] sides = sides
 sides_after (first ∷ rest) sides = sides_after rest (side_changed first sides)
 
--- ---- what is answered
+-- ---- the answer
 
--- the message that a process takes is moved out of its mailbox only then
+-- the answer to a receive is the message, which leaves the mailbox only at the commit
 abbrev pub told_by : Change → FinMap pid_cmp Life → Answer → Answer
 told_by (change.Of p e life.TakesFirst) lives answer = Answer.Message (first_message (fm.get lives p))
 told_by _ lives answer = answer

@@ -1,8 +1,8 @@
--- What a plan makes of a node.
+-- The effect of a plan on a node.
 use Rattle.std.specs.Prelude.{ℕ, ◌+◌, Bool, if◌then◌else◌, ◌++◌, map}
 use Rattle.dist_model.specs.Node.{Node}
 use Rattle.dist_model.specs.declared.report.Answer.{Answer}
-use Rattle.node_plan.specs.Changed.{drawn_by, ends_after, lives_after, popped, registered, sides_after}
+use Rattle.node_plan.specs.Changed.{drawn_by, ends_after, lives_after, names_after, popped, registered, sides_after}
 use Rattle.node_plan.specs.Changed.{spawned_by, told_by, watched, watchers_left, watches_left}
 use Rattle.node_plan.specs.OwnList.{own_item}
 use Rattle.node_plan.specs.declared.plan.Plan.{Plan}
@@ -10,7 +10,7 @@ use Rattle.node_plan.specs.declared.plan.Plan.{Plan}
 abbrev pub dialed_after : Bool → ℕ → ℕ
 dialed_after dials dialed = if dials then dialed + 1 else dialed
 
--- ---- the node as the plan leaves it, and what it answers
+-- ---- the node after the plan, and its answer
 
 abbrev pub committed : Plan → Node → Node
 committed plan m = record {
@@ -20,6 +20,7 @@ committed plan m = record {
   up = m.up;
   dialed = dialed_after plan.dials m.dialed;
   lives = lives_after plan.change m.mint m.lives;
+  names = names_after plan.change m.names;
   ends = ends_after plan.change m.ends;
   watches = watches_left plan.change (watched plan.watches m.watches);
   registered = watchers_left plan.change (registered plan.watchers m.registered);

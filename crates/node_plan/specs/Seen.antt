@@ -4,4 +4,4 @@ use Rattle.node_plan.specs.SeenOf.{seen_of}
 use Rattle.node_plan.specs.declared.node.Node.{Node}
 
 abbrev pub seen : Node → model.Node
-seen node = seen_of node.incarnation node.own node.dialed node.watches node.watchers node.sides node.local.items
+seen node = seen_of node.incarnation node.names node.own node.dialed node.watches node.watchers node.sides node.local.items

@@ -10,16 +10,20 @@ use Rattle.node_tables.specs.Sides.{sides}
 use Rattle.node_tables.specs.declared.sides.Sides.{Sides}
 use Rattle.node_tables.specs.Held.{ends, lives}
 use Rattle.node_tables.specs.declared.incarnation.Incarnation.{Incarnation}
+use Rattle.node_tables.specs.declared.names.Names.{Names}
+use Rattle.node_tables.specs.Registered.{names}
 use Rattle.node_plan.specs.OwnList.{own_item}
 
-abbrev pub seen_of : Incarnation → Identity → ℕ → (watches : Held Watch) → (watchers : Held Registration) → Sides → List Signal → model.Node
-seen_of it own dialed watches watchers held local = record {
+abbrev pub seen_of : Incarnation → Names → Identity → ℕ → (watches : Held Watch) → (watchers : Held Registration) → Sides → List Signal
+    → model.Node
+seen_of it named own dialed watches watchers held local = record {
   mint = it.mint;
   cookie = own.cookie;
   flags = own.flags;
   up = it.up;
   dialed = dialed;
   lives = lives it;
+  names = names named;
   ends = ends it;
   watches = watches.monitors;
   registered = watchers.monitors;

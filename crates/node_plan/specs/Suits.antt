@@ -2,6 +2,7 @@
 use Rattle.std.specs.Prelude.{◌≡◌, ◌+◌, ◌-◌, ◌^◌, ◌<◌, Bool, true, false, List, [], ◌∷◌, None}
 use Rattle.std.specs.FinMap as fm
 use Rattle.std.specs.FinMap.{FinMap}
+use Rattle.dist_model.specs.Naming.{NameMap, name_of}
 use Rattle.dist_model.specs.Node.{Life, is_living_life}
 use Rattle.dist_model.specs.Sides.{TrunkSide}
 use Rattle.erl_names.specs.Ids.{reference_of}
@@ -19,13 +20,20 @@ use Rattle.monitor_core.specs.declared.monitor.Watch.{Watch}
 use Rattle.node_plan.specs.declared.change.MonitorChange.{MonitorChange}
 use Rattle.node_plan.specs.declared.change.MonitorChange.TheVariants as monitor
 
--- the process that changes is living, and a pid is left for one that is spawned
+-- the process that changes is living, and a pid is left for a new process
 abbrev pub Suits : Change → (up : Bool) → Minted → FinMap pid_cmp Life → Type 0
 Suits change.None up m lives = Unit {0}
 Suits change.Spawns up m lives = (up ≡ true) × (m.pids < 2 ^ 32 - 1)
+Suits (change.TakesName naming) up m lives = Unit {0}
+Suits (change.GivesName p) up m lives = Unit {0}
 Suits (change.Of p e l) up m lives = is_living_life (fm.get lives p) ≡ true
 
--- a monitor comes under the next reference, which is drawn for it
+-- a process takes a free name, and has none before
+abbrev pub NameSuits : Change → NameMap → Type 0
+NameSuits (change.TakesName naming) names = (fm.get names naming.name ≡ None) × (name_of names naming.process ≡ None)
+NameSuits _ names = Unit {0}
+
+-- a new monitor has the next reference, which the event draws
 abbrev pub IsNext : MonitorChange Watch → Draws → Minted → Type 0
 IsNext monitor.Stays draw m = Unit {0}
 IsNext (monitor.Adds r owned) draw m = (draw ≡ draws.Reference) × (r ≡ reference_of m (m.references + 1)) × (m.references < 2 ^ 18 - 1)

@@ -1,46 +1,50 @@
 //! The changes of a node's processes, links and monitors.
 
 use erl_term::{Payload, Pid, Reference};
-use node_tables::EndChange;
+use node_tables::{EndChange, Naming};
 
 /// A change of a process's end of a link.
 #[derive(Drop)]
 pub enum LinkChange {
-    /// All stay.
+    /// No change.
     Stays,
-    /// The end towards this partner changes.
+    /// A change of the end towards a partner.
     Becomes(Pid, EndChange),
 }
 
 /// A change of a process.
 #[derive(Drop)]
 pub enum LifeChange {
-    /// It goes on.
+    /// No change.
     Stays,
-    /// It gets a message.
+    /// A message for its mailbox.
     Gets(Payload),
-    /// It ends, for this reason.
+    /// The end of the process, with its exit reason.
     Ends(Payload),
-    /// It traps exits from now on, or doesn't.
+    /// The new setting of its trap flag: true if it traps exits.
     Traps(bool),
-    /// Its oldest message is taken out, if there is one.
+    /// The removal of its oldest message, if there is one.
     TakesFirst,
 }
 
 /// The changes of the processes.
 #[derive(Drop)]
 pub enum Change {
-    /// Nothing.
+    /// No change.
     None,
-    /// One is spawned.
+    /// A new process.
     Spawns,
-    /// One changes: first an end of it, and then the process itself.
+    /// A process takes a name.
+    TakesName(Naming),
+    /// A process gives its name up.
+    GivesName(Pid),
+    /// A change of one process: first of an end that it has, and then of the process itself.
     Of {
         /// The process.
         process: Pid,
-        /// What becomes of an end.
+        /// The change of an end.
         link: LinkChange,
-        /// What becomes of the process.
+        /// The change of the process itself.
         life: LifeChange,
     },
 }
@@ -48,18 +52,18 @@ pub enum Change {
 /// A change of the monitors that processes of the node own, or of those that others have of its processes.
 #[derive(Drop)]
 pub enum MonitorChange<M> {
-    /// All stay.
+    /// No change.
     Stays,
-    /// A monitor comes.
+    /// A new monitor, with its reference.
     Adds(Reference, M),
-    /// The monitor of this reference goes, if there is one.
+    /// The removal of the monitor with this reference, if there is one.
     Removes(Reference),
 }
 
-/// The draws of an event, besides the pid of a process that is spawned.
+/// The draws of an event, besides the pid of a new process.
 #[derive(Clone, Copy, Debug, PartialEq, Eq)]
 pub enum Draws {
-    /// Nothing.
+    /// No draw.
     Nothing,
     /// The count of a reference.
     Reference,

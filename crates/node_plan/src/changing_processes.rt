@@ -1,11 +1,12 @@
-//! What becomes of the processes.
+//! The changes of the processes.
 ghost use Rattle.std.specs.Prelude.{◌≡◌, OnOk, true};
 ghost use Rattle.std.specs.FinMap as fm;
 ghost use Rattle.dist_model.specs.Node.{is_living_life};
 ghost use Rattle.node_tables.specs.Held.{ends, held, lives};
+ghost use Rattle.node_tables.specs.Registered as table;
 ghost use Rattle.node_plan.specs.Changed as after;
-ghost use Rattle.node_plan.specs.RoomForChanges.{ChangeFits, EndFits, LifeFits};
-ghost use Rattle.node_plan.specs.Suits.{Suits};
+ghost use Rattle.node_plan.specs.RoomForChanges.{ChangeFits, EndFits, LifeFits, NameFits};
+ghost use Rattle.node_plan.specs.Suits.{NameSuits, Suits};
 ghost use Rattle.node_plan.specs.declared.change.Change.TheVariants as the_change;
 ghost use Rattle.node_plan.specs.declared.change.LinkChange.TheVariants as link;
 ghost use Rattle.node_plan.specs.declared.change.LifeChange.{LifeChange as TheLifeChange};
@@ -14,11 +15,11 @@ ghost use Rattle.node_plan.specs.declared.change.LinkChange.{LinkChange as TheLi
 use crate::change::{Change, Draws, LifeChange, LinkChange};
 use dist_model::Answer;
 use erl_term::Pid;
-use node_tables::Incarnation;
+use node_tables::{Incarnation, Names};
 use std::alloc::{AllocError, Global};
 
-/// A number is drawn, unless they are used up. Takes no memory. (ERTS User's Guide, External Term
-/// Format, NEWER_REFERENCE_EXT; Distribution Protocol, New Link Protocol.)
+/// Draws the number that `draws` names, if any, unless all are used up. Never allocates. (ERTS User's Guide,
+/// External Term Format, NEWER_REFERENCE_EXT; Distribution Protocol, New Link Protocol.)
 pub fn draw(incarnation: &mut Incarnation, draws: Draws)
     ensures mint { incarnation.new.mint ≡ after.drawn_by draws incarnation.old.mint }
     ensures up { incarnation.new.up ≡ incarnation.old.up }
@@ -51,7 +52,8 @@ fn change_link(incarnation: &mut Incarnation, process: &Pid, change: LinkChange)
     }
 }
 
-// It answers the message that is taken out, and else as it is told to.
+// Applies `change` to a process. Returns the message of [`LifeChange::TakesFirst`], if there is one, or
+// `answer` for any other change.
 #[inline(always)]
 fn change_life(
     incarnation: &mut Incarnation,
@@ -76,20 +78,35 @@ fn change_life(
     answer
 }
 
-/// The processes change, in the room that was made. It answers the message that is taken out, and else
-/// as it is told to. Takes no memory. (Reference Manual, Processes.)
+// Removes the name of a process that ends.
+#[inline(always)]
+fn change_name(names: &mut Names, process: &Pid, change: &LifeChange)
+    ensures { table.names names.new ≡ after.names_left change.now process.now (table.names names.old) }
+{
+    if let LifeChange::Ends(_) = change {
+        names.remove_of(process);
+    }
+}
+
+/// Applies `change` to the processes and their names, in reserved memory. Returns the message of
+/// [`LifeChange::TakesFirst`], if there is one, or `answer` for any other change. Never allocates. (Reference
+/// Manual, Processes.)
 #[inline(always)]
 pub fn change_processes(
     alloc: Global,
     incarnation: &mut Incarnation,
+    names: &mut Names,
     change: Change,
     answer: Answer,
 ) -> Answer
-    requires { ChangeFits change incarnation.old }
+    requires fits { ChangeFits change incarnation.old }
+    requires room { NameFits change names.old }
+    requires suits { NameSuits change (table.names names.old) }
     ensures mint { incarnation.new.mint ≡ after.spawned_by change incarnation.old.mint }
     ensures up { incarnation.new.up ≡ incarnation.old.up }
     ensures lives { lives incarnation.new ≡ after.lives_after change incarnation.old.mint (lives incarnation.old) }
     ensures ends { ends incarnation.new ≡ after.ends_after change (ends incarnation.old) }
+    ensures names { table.names names.new ≡ after.names_after change (table.names names.old) }
     ensures answer { result ≡ after.told_by change (lives incarnation.old) answer }
 {
     match change {
@@ -103,8 +120,17 @@ pub fn change_processes(
             link,
             life,
         } => {
+            change_name(names, &process, &life);
             change_link(incarnation, &process, link);
             change_life(incarnation, &process, life, answer)
+        }
+        Change::TakesName(naming) => {
+            names.register(naming);
+            answer
+        }
+        Change::GivesName(process) => {
+            names.remove_of(&process);
+            answer
         }
     }
 }
@@ -147,17 +173,23 @@ fn reserve_life(
     }
 }
 
-/// Makes room for what becomes of the processes. Nothing else changes.
+/// Reserves memory for `change` of the processes and their names, and changes nothing else.
 ///
 /// # Errors
-/// Where there is no memory for it.
-pub fn reserve_processes(incarnation: &mut Incarnation, change: &Change) -> Result<(), AllocError>
+/// [`AllocError`] if out of memory.
+pub fn reserve_processes(
+    incarnation: &mut Incarnation,
+    names: &mut Names,
+    change: &Change,
+) -> Result<(), AllocError>
     requires { Suits change.now incarnation.old.up incarnation.old.mint (lives incarnation.old) }
     ensures mint { incarnation.new.mint ≡ incarnation.old.mint }
     ensures up { incarnation.new.up ≡ incarnation.old.up }
     ensures lives { lives incarnation.new ≡ lives incarnation.old }
     ensures ends { ends incarnation.new ≡ ends incarnation.old }
+    ensures names { table.names names.new ≡ table.names names.old }
     ensures fits { OnOk result (ChangeFits change.now incarnation.new) }
+    ensures room { OnOk result (NameFits change.now names.new) }
 {
     match change {
         Change::None => Ok(()),
@@ -170,5 +202,7 @@ pub fn reserve_processes(incarnation: &mut Incarnation, change: &Change) -> Resu
             reserve_link(incarnation, process, link)?;
             reserve_life(incarnation, process, life)
         }
+        Change::TakesName(_) => names.reserve(),
+        Change::GivesName(_) => Ok(()),
     }
 }

@@ -1,4 +1,4 @@
-//! A plan is carried out.
+//! The application of a plan to its node.
 ghost use Rattle.std.specs.Prelude.{◌≡◌, ◌-◌, ◌^◌, ◌<◌, true};
 ghost use Rattle.node_plan.specs.Plans as after;
 ghost use Rattle.node_plan.specs.Room.{Fits};
@@ -22,7 +22,8 @@ fn dialed_after(dialed: u64, dials: bool) -> u64
 }
 
 impl Node {
-    /// Carries a plan out, which was made for this node as it is. Takes no memory.
+    /// Applies `plan`, which must have been made for the node's current state, and returns its report.
+    /// [`Node::reserve`] must have reserved its memory. Never allocates.
     #[inline(always)]
     pub fn commit(&mut self, alloc: Global, plan: Plan) -> Report<Frame>
         requires { Fits self.old plan }
@@ -44,7 +45,13 @@ impl Node {
         } = plan;
         change_watches(&mut self.watches, watches, &change);
         change_watchers(&mut self.watchers, watchers, &change);
-        let answer = change_processes(alloc, &mut self.incarnation, change, answer);
+        let answer = change_processes(
+            alloc,
+            &mut self.incarnation,
+            &mut self.names,
+            change,
+            answer,
+        );
         draw(&mut self.incarnation, draws);
         keep(&mut self.local, pops, local);
         change_sides(&mut self.sides, sides);

@@ -8,28 +8,30 @@ ghost use Rattle.node_plan.specs.SeenOf.{seen_of};
 use erl_control::Signal;
 use erl_handshake::Identity;
 use monitor_core::{Watchers, Watches};
-use node_tables::{Incarnation, Sides};
+use node_tables::{Incarnation, Names, Sides};
 use std::collections::VecDeque;
 
-/// One node: what it keeps of its processes, their links and monitors, and its connections.
+/// The state of a node: its processes, with their names, links and monitors, and its connections.
 /// (Reference Manual, Processes; Distributed Erlang.)
 #[derive(Drop)]
 pub struct Node {
     pub(crate) incarnation: Incarnation,
+    /// The names of its processes.
+    pub(crate) names: Names,
     /// The node as it introduces itself.
     pub(crate) own: Identity,
-    /// How many connections it has ever dialed.
+    /// The number of connections that it has ever dialed.
     pub(crate) dialed: u64,
     /// The monitors that its processes own.
     pub(crate) watches: Watches,
     /// The monitors that others have of its processes.
     pub(crate) watchers: Watchers,
     pub(crate) sides: Sides,
-    /// What travels from the node to itself.
+    /// The signals in flight from the node to itself.
     pub(crate) local: VecDeque<Signal>,
     ghost introduces: { Introduces own incarnation.mint },
     ghost drawn: { AreDrawn watches.monitors incarnation.mint },
     ghost sendable: { are_sendable local.items ≡ true },
-    ghost steady: { Steady (seen_of incarnation own dialed watches watchers sides local.items) },
-    ghost counted: { CountsOwn (seen_of incarnation own dialed watches watchers sides local.items) },
+    ghost steady: { Steady (seen_of incarnation names own dialed watches watchers sides local.items) },
+    ghost counted: { CountsOwn (seen_of incarnation names own dialed watches watchers sides local.items) },
 }

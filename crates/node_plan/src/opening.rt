@@ -7,16 +7,16 @@ use crate::node::Node;
 use erl_handshake::{Identity, Setup};
 use erl_names::{Creation, NodeName};
 use monitor_core::{Watchers, Watches};
-use node_tables::{Incarnation, Sides};
+use node_tables::{Incarnation, Names, Sides};
 use std::alloc::{AllocError, Global};
 use std::collections::VecDeque;
 
 impl Node {
-    /// Returns a node of this name and setup that runs, in its first incarnation. (Reference Manual, Distributed
-    /// Erlang, Nodes.)
+    /// Returns a running node of `name` and `setup`, in its first incarnation. (Reference Manual,
+    /// Distributed Erlang, Nodes.)
     ///
     /// # Errors
-    /// Where there is no memory for the name.
+    /// [`AllocError`] if out of memory.
     pub fn new(alloc: Global, name: NodeName, setup: Setup) -> Result<Node, AllocError>
         ensures { IfOk result (λ node. seen node ≡ new_node name setup) }
     {
@@ -28,6 +28,7 @@ impl Node {
         };
         Ok(Node {
             incarnation: Incarnation::new(alloc, name, Creation::first()),
+            names: Names::new(alloc),
             own,
             dialed: 0,
             watches: Watches::new(alloc),

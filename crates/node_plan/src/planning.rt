@@ -1,9 +1,10 @@
-//! What is planned of one process, and of what is drawn and monitored.
+//! The plans of one process's change, of draws and of monitors.
 ghost use Rattle.std.specs.Prelude.{◌≡◌, ◌+◌, ◌-◌, ◌<◌, ◌^◌, true, false, None, List, ◌∷◌, OnOk};
 ghost use Rattle.std.specs.FinMap as fm;
-ghost use Rattle.dist_model.specs.Calls.{first_message, spawn_life, trapping, with_life, without_first};
+ghost use Rattle.dist_model.specs.Calls.{first_message, spawn_life, trapping, with_life, with_names, without_first};
 ghost use Rattle.dist_model.specs.Items.{Item as TheItem};
 ghost use Rattle.dist_model.specs.Monitoring as monitoring;
+ghost use Rattle.dist_model.specs.Naming.{name_of, without_holder};
 ghost use Rattle.dist_model.specs.Node.{Node as TheNode, end_of, living};
 ghost use Rattle.dist_model.specs.Work.{Work, at_work, draw, set_end};
 ghost use Rattle.dist_model.specs.declared.report.Answer.TheVariants as the_answer;
@@ -23,13 +24,13 @@ use crate::plan::Plan;
 use dist_model::Answer;
 use erl_term::{Pid, Reference};
 use monitor_core::{Registration, Watch};
-use node_tables::EndChange;
+use node_tables::{EndChange, Naming};
 use std::alloc::{AllocError, Global};
 use std::mem;
 
 impl Plan {
-    /// Nothing is to be done, but that the first item of the own list is taken, if it says so. Takes
-    /// no memory.
+    /// Returns a plan of no changes. If `pops`, its commit removes the first signal in flight from the node
+    /// to itself. Never allocates.
     pub fn new(alloc: Global, pops: bool) -> Plan
         ensures told { (m : TheNode) → told result m ≡ the_answer.Done }
         ensures blank { IsBlank result }
@@ -50,7 +51,7 @@ impl Plan {
         }
     }
 
-    /// This is answered. Takes no memory.
+    /// Plans `answer` as the answer to the event. Never allocates.
     pub fn answers(&mut self, answer: Answer)
         requires { self.old.change ≡ change.None }
         ensures told { (m : TheNode) → told self.new m ≡ answer }
@@ -65,7 +66,7 @@ impl Plan {
         drop(mem::replace(&mut self.answer, answer));
     }
 
-    /// A process is spawned. Takes no memory. (Reference Manual, Processes, Process Creation.)
+    /// Plans a new process. Never allocates. (Reference Manual, Processes, Process Creation.)
     pub fn spawn(&mut self)
         requires { self.old.change ≡ change.None }
         ensures carries { (m : TheNode) → m.up ≡ true → m.mint.pids < 2 ^ 32 - 1 → CarriesOut self.old m (at_work m) → CarriesOut self.new m (spawn_life m (pid_of m.mint (m.mint.pids + 1))) }
@@ -75,8 +76,28 @@ impl Plan {
         self.change.set(Change::Spawns);
     }
 
-    /// A living process traps exits from now on, or doesn't. Takes no memory. (Reference Manual,
-    /// Processes, Receiving Exit Signals.)
+    /// Plans that a process takes a name, as `naming` says. Never allocates. (Reference Manual, Processes,
+    /// Registered Processes.)
+    pub fn take_name(&mut self, naming: Naming)
+        requires { self.old.change ≡ change.None }
+        ensures carries { (m : TheNode) → fm.get m.names naming.name ≡ None → name_of m.names naming.process ≡ None → CarriesOut self.old m (at_work m) → CarriesOut self.new m (with_names m (fm.insert m.names naming.name naming.process)) }
+        ensures told { (m : TheNode) → told self.new m ≡ told self.old m }
+    {
+        self.change.set(Change::TakesName(naming));
+    }
+
+    /// Plans that `process` gives its name up. Never allocates. (Reference Manual, Processes, Registered
+    /// Processes.)
+    pub fn give_name(&mut self, process: Pid)
+        requires { self.old.change ≡ change.None }
+        ensures carries { (m : TheNode) → CarriesOut self.old m (at_work m) → CarriesOut self.new m (with_names m (without_holder m.names process)) }
+        ensures told { (m : TheNode) → told self.new m ≡ told self.old m }
+    {
+        self.change.set(Change::GivesName(process));
+    }
+
+    /// Plans that a living process traps exits if `on`, and doesn't otherwise. Never allocates. (Reference
+    /// Manual, Processes, Receiving Exit Signals.)
     pub fn trap(&mut self, process: Pid, on: bool)
         requires { self.old.change ≡ change.None }
         ensures carries { (m : TheNode) → living m process ≡ true → CarriesOut self.old m (at_work m) → CarriesOut self.new m (with_life m process (trapping (fm.get m.lives process) on)) }
@@ -90,8 +111,8 @@ impl Plan {
         });
     }
 
-    /// The oldest message of a living process is taken out, if there is one. Takes no memory.
-    /// (Reference Manual, Processes, Delivery of Signals.)
+    /// Plans that a living process takes its oldest message out of its mailbox, if there is one. That message
+    /// is the answer. Never allocates. (Reference Manual, Processes, Delivery of Signals.)
     pub fn take_first(&mut self, process: Pid)
         requires { self.old.change ≡ change.None }
         ensures carries { (m : TheNode) → living m process ≡ true → CarriesOut self.old m (at_work m) → CarriesOut self.new m (with_life m process (without_first (fm.get m.lives process))) }
@@ -104,11 +125,11 @@ impl Plan {
         });
     }
 
-    /// The end of a living process towards a partner changes. (ERTS User's Guide, Distribution
-    /// Protocol, New Link Protocol.)
+    /// Plans the change `how` of the end of a living process towards `partner`. (ERTS User's Guide,
+    /// Distribution Protocol, New Link Protocol.)
     ///
     /// # Errors
-    /// Where there is no memory for the plan.
+    /// [`AllocError`] if out of memory.
     pub fn change_end(
         &mut self,
         process: &Pid,
@@ -125,7 +146,7 @@ impl Plan {
         self.change.set_end(process, partner, how)
     }
 
-    /// An unlink id is drawn. Takes no memory. (ERTS User's Guide, Distribution Protocol, New Link
+    /// Plans to draw an unlink id. Never allocates. (ERTS User's Guide, Distribution Protocol, New Link
     /// Protocol.)
     pub fn draw_unlink_id(&mut self)
         requires draws { self.old.draws ≡ the_draws.Nothing }
@@ -137,7 +158,7 @@ impl Plan {
         self.draws = Draws::UnlinkId;
     }
 
-    /// The count of a reference is drawn. Takes no memory. (ERTS User's Guide, External Term Format,
+    /// Plans to draw the count of a reference. Never allocates. (ERTS User's Guide, External Term Format,
     /// NEWER_REFERENCE_EXT.)
     pub fn draw_reference(&mut self)
         requires draws { self.old.draws ≡ the_draws.Nothing }
@@ -154,8 +175,8 @@ impl Plan {
 }
 
 impl Plan {
-    /// A process here monitors another under the reference that is drawn for this. Takes no memory.
-    /// (Reference Manual, Processes, Monitors.)
+    /// Plans to add `owned`, a monitor that a process here owns. Its `reference` is the one that the plan
+    /// draws. Never allocates. (Reference Manual, Processes, Monitors.)
     pub fn watch(&mut self, reference: Reference, owned: Watch)
         requires draws { self.old.draws ≡ the_draws.Reference }
         requires change { self.old.change ≡ change.None }
@@ -167,7 +188,8 @@ impl Plan {
         self.watches.set(MonitorChange::Adds(reference, owned));
     }
 
-    /// A monitor of a process here goes. Takes no memory. (Reference Manual, Processes, Monitors.)
+    /// Plans to remove the monitor of `reference` that a process here owns. Never allocates. (Reference
+    /// Manual, Processes, Monitors.)
     pub fn unwatch(&mut self, reference: Reference)
         requires change { self.old.change ≡ change.None }
         requires watches { self.old.watches ≡ monitor.Stays }
@@ -178,8 +200,8 @@ impl Plan {
         self.watches.set(MonitorChange::Removes(reference));
     }
 
-    /// Another has a monitor of a process here. Takes no memory. (Reference Manual, Processes,
-    /// Monitors.)
+    /// Plans to add `owned`, a monitor that another has of a process here, under `reference`. Never
+    /// allocates. (Reference Manual, Processes, Monitors.)
     pub fn register(&mut self, reference: Reference, owned: Registration)
         requires change { self.old.change ≡ change.None }
         requires watchers { self.old.watchers ≡ monitor.Stays }
@@ -189,8 +211,8 @@ impl Plan {
         self.watchers.set(MonitorChange::Adds(reference, owned));
     }
 
-    /// A monitor that another has of a process here goes. Takes no memory. (Reference Manual,
-    /// Processes, Monitors.)
+    /// Plans to remove the monitor of `reference` that another has of a process here. Never allocates.
+    /// (Reference Manual, Processes, Monitors.)
     pub fn unregister(&mut self, reference: Reference)
         requires change { self.old.change ≡ change.None }
         requires watchers { self.old.watchers ≡ monitor.Stays }

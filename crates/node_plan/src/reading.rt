@@ -1,12 +1,13 @@
 //! The queries of a node and its processes.
 ghost use Rattle.std.specs.Prelude.{◌≡◌, ◌<◌, IfNone, IfSome, Some, T, false, true};
 ghost use Rattle.std.specs.FinMap as fm;
-ghost use Rattle.std.specs.Option.{option_copied, option_map};
+ghost use Rattle.std.specs.Option.{is_some, option_copied, option_map};
 ghost use Rattle.std.specs.Ordering.{is_lt};
 ghost use Rattle.sorted_map.specs.Entries.{next};
 ghost use Rattle.dist_model.specs.Handshake.{identity};
 ghost use Rattle.dist_model.specs.Losses.{any_side};
 ghost use Rattle.dist_model.specs.Names.{pair_cmp, same_name};
+ghost use Rattle.dist_model.specs.Naming.{name_of};
 ghost use Rattle.dist_model.specs.Sides.{is_gone, is_losing};
 ghost use Rattle.erl_names.specs.Ids.{pid_of};
 ghost use Rattle.erl_term.specs.Order.{pid_cmp};
@@ -33,7 +34,7 @@ use node_frames::same_name;
 use node_tables::{FoundLink, Life, Which};
 
 impl Node {
-    /// The name of the node.
+    /// Returns the name of the node.
     pub fn name(&self) -> &NodeName
         ensures { result.now ≡ (seen self.now).mint.name }
     {
@@ -54,8 +55,8 @@ impl Node {
         self.incarnation.is_up()
     }
 
-    /// The node as it introduces itself. (ERTS User's Guide, Distribution Protocol, Distribution
-    /// Handshake.)
+    /// Returns the identity by which the node introduces itself. (ERTS User's Guide, Distribution Protocol,
+    /// Distribution Handshake.)
     pub fn identity(&self) -> &Identity
         ensures { result.now ≡ identity (seen self.now) }
     {
@@ -69,8 +70,8 @@ impl Node {
         self.dialed
     }
 
-    /// Returns the side of a connection. One that is gone stands for others that are gone too, and its own
-    /// connection may be one of those.
+    /// Returns the side of the connection `trunk`. A side that is gone may stand for several connections, so
+    /// its own `trunk` may be another one that is gone.
     pub fn side(&self, trunk: &TrunkId) -> Option<&Side>
         ensures side { option_map side_of (option_copied result) ≡ fm.get (seen self.now).sides trunk.now }
         ensures trunk { IfSome (option_copied result) (λ side. is_gone (state_of side.standing) ≡ false → side.trunk ≡ trunk.now) }
@@ -79,21 +80,21 @@ impl Node {
         self.sides.get(trunk)
     }
 
-    /// The first side towards a peer that is sought.
+    /// Returns the first side towards `peer` that passes `which`.
     pub fn first_towards(&self, peer: &Atom, which: Which) -> Option<&Side>
         ensures { option_map entry_of (option_copied result) ≡ model.side_where (passes which) peer.now (fm.entries (seen self.now).sides) }
     {
         self.sides.first_towards(peer, which)
     }
 
-    /// The first side that is lost and isn't cleared away yet.
+    /// Returns the first side that is losing: its connection is lost, and its records aren't swept yet.
     pub fn first_losing(&self) -> Option<&Side>
         ensures { option_map entry_of (option_copied result) ≡ any_side is_losing (fm.entries (seen self.now).sides) }
     {
         self.sides.first_losing()
     }
 
-    /// Returns the first signal that travels from the node to itself.
+    /// Returns the first signal in flight from the node to itself.
     pub fn first_local(&self) -> Option<&Signal>
         ensures first { first_in (seen self.now).local ≡ option_map own_item (option_copied result) }
         ensures sendable { IfSome (option_copied result) (λ signal. is_sendable signal ≡ true) }
@@ -101,21 +102,21 @@ impl Node {
         self.local.front()
     }
 
-    /// The monitors that its processes own.
+    /// Returns the monitors that its processes own.
     pub fn watches(&self) -> &Watches
         ensures { result.now.monitors ≡ (seen self.now).watches }
     {
         &self.watches
     }
 
-    /// The monitors that others have of its processes.
+    /// Returns the monitors that others have of its processes.
     pub fn watchers(&self) -> &Watchers
         ensures { result.now.monitors ≡ (seen self.now).registered }
     {
         &self.watchers
     }
 
-    /// Returns the life of a process that is living or has ended. [`None`] if there is none.
+    /// Returns the life of a process, living or ended. [`None`] if there is none.
     pub fn life(&self, process: &Pid) -> Option<&Life>
         ensures { fm.get (seen self.now).lives process.now ≡ option_map life_of (option_copied result) }
     {
@@ -129,7 +130,21 @@ impl Node {
         self.incarnation.is_living(process)
     }
 
-    /// Returns true if no process of the node has had this pid. (Reference Manual, Processes.)
+    /// Returns the process that has a name. (Reference Manual, Processes, Registered Processes.)
+    pub fn holder(&self, name: &Atom) -> Option<&Pid>
+        ensures { option_copied result ≡ fm.get (seen self.now).names name.now }
+    {
+        self.names.holder(name)
+    }
+
+    /// Returns true if a process has a name. (Reference Manual, Processes, Registered Processes.)
+    pub fn has_name(&self, process: &Pid) -> bool
+        ensures { result ≡ is_some (name_of (seen self.now).names process.now) }
+    {
+        self.names.name_of(process).is_some()
+    }
+
+    /// Returns true if no process of the node has had the pid `process`. (Reference Manual, Processes.)
     pub fn is_stranger(&self, process: &Pid) -> bool
         ensures { result ≡ model.is_stranger (seen self.now) process.now }
     {
@@ -149,29 +164,29 @@ impl Node {
         self.incarnation.traps(process)
     }
 
-    /// The end that a process has of its link to a partner.
+    /// Returns the end that a process has of its link to a partner.
     pub fn end(&self, process: &Pid, partner: &Pid) -> End
         ensures { result ≡ model.end_of (seen self.now) process.now partner.now }
     {
         self.incarnation.end(process, partner)
     }
 
-    /// The connection that is up to a peer.
+    /// Returns the connection that is up to a peer, if there is one.
     pub fn route(&self, peer: &Atom) -> Option<&TrunkId>
         ensures { option_copied result ≡ model.route (seen self.now) peer.now }
     {
         self.sides.route(peer)
     }
 
-    /// The first link to a process at a node, of the processes here whose ids are greater than this one,
-    /// in the order of the ids. Those that are passed have no links to it. (Reference Manual, Processes,
-    /// Links.)
+    /// Returns the first link to a process at `node`, of the processes here whose ids are greater than
+    /// `after`, in the order of the ids. Those before it have no links to `node`. (Reference Manual,
+    /// Processes, Links.)
     pub fn first_link_towards(&self, node: &Atom, after: u32) -> Option<FoundLink<'_>>
         requires { (seen self.now).up ≡ true }
         ensures found { let m = seen self.now in IfSome result (λ f. fm.get m.ends (pid_of m.mint f.id, f.partner.now) ≡ Some f.end) }
         ensures towards { IfSome result (λ f. same_name f.partner.now.node node.now ≡ true) }
         ensures behind { IfSome result (λ f. after < f.id) }
-        // none that would come before it is to one at the node
+        // no link before it is to a process at the node
         ensures least { let m = seen self.now in IfSome result (λ f. (p q : ThePid) (e : TheEnd) → fm.get m.ends (p, q) ≡ Some e → after < p.id
             → same_name q.node node.now ≡ true → is_lt (pair_cmp (p, q) (pid_of m.mint f.id, f.partner.now)) ≡ false) }
         ensures none { let m = seen self.now in IfNone result ((p q : ThePid) (e : TheEnd) → fm.get m.ends (p, q) ≡ Some e → after < p.id → same_name q.node node.now ≡ false) }
@@ -179,8 +194,8 @@ impl Node {
         self.incarnation.first_link_towards(node, after)
     }
 
-    /// Returns true if a process has a link to a process at a node that is behind this partner in the order
-    /// of pids. Costs the logarithm of its links. (Reference Manual, Processes, Links.)
+    /// Returns true if a process has a link to one at `node` that is behind `partner` in the order of pids.
+    /// Takes time logarithmic in the number of its links. (Reference Manual, Processes, Links.)
     pub fn has_link_behind(&self, process: &Pid, node: &Atom, partner: &Pid) -> bool
         ensures has { let m = seen self.now in result ≡ true → (q : ThePid) × (e : TheEnd) × (fm.get m.ends (process.now, q) ≡ Some e)
             × (same_name q.node node.now ≡ true) × (is_lt (pid_cmp partner.now q) ≡ true) }
@@ -190,8 +205,9 @@ impl Node {
         self.incarnation.has_link_behind(process, node, partner)
     }
 
-    /// Returns the first partner of a process behind the one that is given, in the order of the partners,
-    /// and the end towards it. None where the process isn't living. Costs the logarithm of its links.
+    /// Returns the first partner of a process behind the partner `behind`, in the order of the partners, and
+    /// the end towards it. [`None`] if there is none, or if the process isn't living. Takes time logarithmic
+    /// in the number of its links.
     pub fn next_link(&self, process: &Pid, behind: Option<&Pid>) -> Option<&(Pid, End)>
         ensures link { option_copied result ≡ next pid_cmp (option_copied behind.entry) (model.ends_of (seen self.now) process.now) }
         ensures sorted { T (fm.is_sorted pid_cmp (model.ends_of (seen self.now) process.now)) }

@@ -1,4 +1,4 @@
-//! Records that come.
+//! New records of links and monitors.
 ghost use Rattle.std.specs.Prelude.{◌≡◌};
 ghost use Rattle.node_plan.specs.Registering.{changes_towards, is_new, links_towards, registers_towards, watches_towards};
 
@@ -9,7 +9,7 @@ use monitor_core::{Registration, Watch};
 use node_frames::same_name;
 use node_tables::EndChange;
 
-// Returns true if an end comes where there was none.
+// Returns true if `how` makes an end where there was none.
 fn is_new(how: &EndChange) -> bool
     ensures { result ≡ is_new how.now }
 {
@@ -19,7 +19,7 @@ fn is_new(how: &EndChange) -> bool
     )
 }
 
-// Returns true if a link comes to a process at a peer.
+// Returns true if `link` makes a link to a process at `peer`.
 fn links_towards(link: &LinkChange, peer: &Atom) -> bool
     ensures { result ≡ links_towards peer.now link.now }
 {
@@ -29,17 +29,18 @@ fn links_towards(link: &LinkChange, peer: &Atom) -> bool
     }
 }
 
-/// Returns true if a link comes to a process at a peer. (Reference Manual, Processes, Links.)
+/// Returns true if `change` makes a link to a process at `peer`. (Reference Manual, Processes, Links.)
 pub fn changes_towards(change: &Change, peer: &Atom) -> bool
     ensures { result ≡ changes_towards peer.now change.now }
 {
     match change {
         Change::Of { link, .. } => links_towards(link, peer),
-        Change::None | Change::Spawns => false,
+        Change::None | Change::Spawns | Change::TakesName(_) | Change::GivesName(_) => false,
     }
 }
 
-/// Returns true if a monitor of a process at a peer comes. (Reference Manual, Processes, Monitors.)
+/// Returns true if `watches` adds a monitor of a process at `peer`. (Reference Manual, Processes,
+/// Monitors.)
 pub fn watches_towards(watches: &MonitorChange<Watch>, peer: &Atom) -> bool
     ensures { result ≡ watches_towards peer.now watches.now }
 {
@@ -49,7 +50,7 @@ pub fn watches_towards(watches: &MonitorChange<Watch>, peer: &Atom) -> bool
     }
 }
 
-/// Returns true if a monitor comes that a process at a peer has. (Reference Manual, Processes,
+/// Returns true if `watchers` adds a monitor that a process at `peer` owns. (Reference Manual, Processes,
 /// Monitors.)
 pub fn registers_towards(watchers: &MonitorChange<Registration>, peer: &Atom) -> bool
     ensures { result ≡ registers_towards peer.now watchers.now }

@@ -1,4 +1,4 @@
-//! Room is made for what a plan adds.
+//! The reservation of memory for a plan.
 ghost use Rattle.std.specs.Prelude.{◌≡◌, ◌<◌, ◌-◌, ◌^◌, OnOk, true};
 ghost use Rattle.dist_model.specs.Keeping.{CountsOwn, Steady};
 ghost use Rattle.node_plan.specs.Suits.{LetsAll};
@@ -14,10 +14,10 @@ use crate::plan::Plan;
 use std::alloc::AllocError;
 
 impl Node {
-    /// Makes room for all that a plan adds. Nothing else changes.
+    /// Reserves memory for everything that `plan` adds, and changes nothing else.
     ///
     /// # Errors
-    /// Where there is no memory for it.
+    /// [`AllocError`] if out of memory.
     #[inline(always)]
     pub fn reserve(&mut self, plan: &Plan) -> Result<(), AllocError>
         requires sound { IsSound plan.now (seen self.old) }
@@ -28,7 +28,7 @@ impl Node {
         ensures seen { seen self.new ≡ seen self.old }
         ensures fits { OnOk result (Fits self.new plan.now) }
     {
-        reserve_processes(&mut self.incarnation, &plan.change)?;
+        reserve_processes(&mut self.incarnation, &mut self.names, &plan.change)?;
         reserve_watches(&mut self.watches, &plan.watches)?;
         reserve_watchers(&mut self.watchers, &plan.watchers)?;
         self.sides.reserve(plan.sides.len())?;

@@ -1,4 +1,4 @@
-//! A node stops, and starts again.
+//! The stop and the start of a node.
 ghost use Rattle.std.specs.Prelude.{◌≡◌, ◌↔◌, ◌-◌, ◌^◌, true, false, OnOk, OnErr, IsErr, IsOkUnless};
 ghost use Rattle.dist_model.specs.Incarnations.{started, stopped};
 ghost use Rattle.node_plan.specs.Seen.{seen};
@@ -6,28 +6,30 @@ ghost use Rattle.node_plan.specs.Seen.{seen};
 use crate::node::Node;
 use erl_term::Refusal;
 use monitor_core::{Watchers, Watches};
+use node_tables::Names;
 use std::alloc::Global;
 
 impl Node {
-    /// The node stops: no process is living any more, nothing is sent, and every connection is gone.
-    /// Takes no memory. (ERTS User's Guide, Distribution Protocol, Distribution Handshake, on
-    /// creations.)
+    /// Stops the node: drops its processes, with their names, links and monitors. All its connections are
+    /// then gone. Sends nothing, and never allocates. (ERTS User's Guide, Distribution Protocol, Distribution
+    /// Handshake, on creations.)
     pub fn stop(&mut self, alloc: Global)
         requires { (seen self.old).up ≡ true }
         ensures { seen self.new ≡ stopped (seen self.old) }
     {
         self.incarnation.stop();
+        self.names = Names::new(alloc);
         self.watches = Watches::new(alloc);
         self.watchers = Watchers::new(alloc);
         self.sides.all_gone();
     }
 
-    /// The node starts again after it has stopped, in its next incarnation, which has drawn nothing.
-    /// Takes no memory. (ERTS User's Guide, Distribution Protocol, Distribution Handshake, on
+    /// Starts the node again after it has stopped, in its next incarnation, which has drawn nothing.
+    /// Never allocates. (ERTS User's Guide, Distribution Protocol, Distribution Handshake, on
     /// creations.)
     ///
     /// # Errors
-    /// [`Refusal::IdsUsedUp`] behind the last incarnation, 2^32 - 1. Then nothing has changed.
+    /// [`Refusal::IdsUsedUp`] if the creation is the last one, 2^32 - 1. On error nothing changes.
     pub fn start(&mut self, alloc: Global) -> Result<(), Refusal>
         requires { (seen self.old).up ≡ false }
         ensures node { OnOk result (seen self.new ≡ started (seen self.old)) }
@@ -37,6 +39,7 @@ impl Node {
     {
         self.incarnation.start()?;
         self.own.creation = self.incarnation.mint().creation();
+        self.names = Names::new(alloc);
         self.watches = Watches::new(alloc);
         self.watchers = Watchers::new(alloc);
         self.sides.all_gone();

@@ -1,4 +1,4 @@
-//! Another change in place of the one before.
+//! The replacement of a planned change.
 ghost use Rattle.std.specs.Prelude.{◌≡◌, OnErr, OnOk};
 ghost use Rattle.node_plan.specs.Parts.{link_in};
 ghost use Rattle.node_plan.specs.declared.change.Change.TheVariants as the_change;
@@ -12,18 +12,18 @@ use std::alloc::AllocError;
 use std::mem;
 
 impl Change {
-    /// This becomes of the processes. Takes no memory.
+    /// Replaces the planned change of the processes by `change`. Never allocates.
     pub fn set(&mut self, change: Change)
         ensures { self.new ≡ change }
     {
         drop(mem::replace(self, change));
     }
 
-    /// The end of a process towards a partner changes. (ERTS User's Guide, Distribution Protocol, New
-    /// Link Protocol.)
+    /// Replaces the planned change by the change `how` of the end of a process towards `partner`. (ERTS
+    /// User's Guide, Distribution Protocol, New Link Protocol.)
     ///
     /// # Errors
-    /// Where there is no memory for it. Then nothing has changed.
+    /// [`AllocError`] if out of memory. On error nothing changes.
     pub fn set_end(
         &mut self,
         process: &Pid,
@@ -42,7 +42,7 @@ impl Change {
         Ok(())
     }
 
-    // What becomes of an end, taken out.
+    // Returns the planned change of an end, and leaves no change.
     fn take_link(&mut self) -> LinkChange
         ensures { result ≡ link_in self.old }
     {
@@ -56,7 +56,9 @@ impl Change {
                 drop(life);
                 link
             }
-            Change::None | Change::Spawns => LinkChange::Stays,
+            Change::None | Change::Spawns | Change::TakesName(_) | Change::GivesName(_) => {
+                LinkChange::Stays
+            }
         }
     }
 
@@ -71,10 +73,10 @@ impl Change {
         });
     }
 
-    /// This becomes of a process, and what becomes of an end stays.
+    /// Plans the change `life` of a process, and keeps the planned change of an end.
     ///
     /// # Errors
-    /// Where there is no memory for it. Then nothing has changed.
+    /// [`AllocError`] if out of memory. On error nothing changes.
     pub fn set_life(&mut self, process: &Pid, life: LifeChange) -> Result<(), AllocError>
         ensures ok { OnOk result (self.new ≡ the_change.Of process.now (link_in self.old) life) }
         ensures err { OnErr result (self.new ≡ self.old) }
@@ -93,7 +95,7 @@ impl Change {
 }
 
 impl<M: Drop> MonitorChange<M> {
-    /// Sets the change of the monitors. Takes no memory.
+    /// Replaces the planned change of the monitors by `change`. Never allocates.
     pub fn set(&mut self, change: MonitorChange<M>)
         ensures { self.new ≡ change }
     {

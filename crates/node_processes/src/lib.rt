@@ -6,6 +6,7 @@ mod commands;
 mod ending;
 mod linking;
 mod monitoring;
+mod naming;
 mod obeying;
 mod reacting;
 mod taking;

@@ -1,4 +1,4 @@
-//! A caller's command is planned.
+//! The plan of a caller's command.
 ghost use Rattle.std.specs.Prelude.{◌≡◌, true};
 ghost use Rattle.dist_model.specs.Calls.{call};
 ghost use Rattle.dist_model.specs.Work.{at_work};
@@ -11,15 +11,16 @@ ghost use Rattle.node_plan.specs.Seen.{seen};
 use crate::commands::{exit_self, exit_to, is_alive, links_of, receive, send, spawn, trap};
 use crate::linking::{link, unlink};
 use crate::monitoring::{demonitor, monitor};
+use crate::naming::{register, unregister, where_is};
 use dist_model::Command;
 use erl_term::Refusal;
 use node_plan::{Node, Plan};
 use std::alloc::Global;
 
-/// Plans a command at a node that runs. (Reference Manual, Processes.)
+/// Plans `command` at a node that runs. (Reference Manual, Processes.)
 ///
 /// # Errors
-/// As the model refuses the command, and behind that [`Refusal::OutOfMemory`].
+/// The refusal of the model, if it refuses the command. Otherwise [`Refusal::OutOfMemory`] if out of memory.
 pub fn obey(alloc: Global, node: &Node, plan: &mut Plan, command: Command) -> Result<(), Refusal>
     requires up { (seen node.now).up ≡ true }
     requires blank { IsBlank plan.old }
@@ -40,5 +41,8 @@ pub fn obey(alloc: Global, node: &Node, plan: &mut Plan, command: Command) -> Re
         Command::Receive { process } => receive(node, plan, process),
         Command::LinksOf { process } => links_of(alloc, node, plan, &process),
         Command::IsAlive { process } => is_alive(node, plan, &process),
+        Command::Register { process, name } => register(node, plan, &process, &name),
+        Command::Unregister { process } => unregister(node, plan, process),
+        Command::WhereIs { name } => where_is(node, plan, &name),
     }
 }

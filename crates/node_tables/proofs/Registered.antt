@@ -19,7 +19,7 @@ use Rattle.sorted_map.proofs.Orderings.{equal_of}
 use Rattle.sorted_map.specs.Entries.{without}
 use Rattle.sorted_map.specs.First.{first_held, first_none, first_passes}
 use Rattle.sorted_map.specs.Maps.{map_put, map_without, sorted_put, sorted_without}
-use Rattle.node_tables.specs.Registered.{NameMap, IsOneToOne, is_held_by, name_of, without_holder}
+use Rattle.dist_model.specs.Naming.{NameMap, IsOneToOne, is_held_by, name_of, without_holder}
 use Rattle.node_tables.specs.Turned.{AreInverse, IsTurned}
 
 turned : {A : Type 0} (b : Bool) (x y : A) → cond (not b) x y ≡ cond b y x

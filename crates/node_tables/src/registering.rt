@@ -4,7 +4,8 @@ ghost use Rattle.std.specs.FinMap as fm;
 ghost use Rattle.std.specs.Option.{option_copied, option_map};
 ghost use Rattle.dist_model.specs.Names.{Name};
 ghost use Rattle.erl_term.specs.declared.term.Pid.{Pid};
-ghost use Rattle.node_tables.specs.Registered.{name_of, names, without_holder, HasRoom, IsOneToOne, NameMap};
+ghost use Rattle.dist_model.specs.Naming.{name_of, without_holder, IsOneToOne, NameMap};
+ghost use Rattle.node_tables.specs.Registered.{names, HasRoom};
 
 use crate::names::Names;
 use crate::naming::Naming;

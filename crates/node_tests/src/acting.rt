@@ -14,7 +14,7 @@ const SECRET: &[u8] = b"12345678901234567890123456789012345678901234567890123456
 /// The word that each event draws.
 const WORD: u32 = 1234567890;
 
-/// The node a@h.
+/// Returns a new node a@h.
 pub fn node(alloc: Global) -> Result<Node, Refusal> {
     let name = node_name(alloc, "a@h")?;
     let setup = Setup {
@@ -41,7 +41,7 @@ pub fn pid(alloc: Global, process: Process) -> Result<Pid, Refusal> {
     })
 }
 
-/// The reference of the node's first incarnation that has this word, 0 and 0.
+/// Returns the reference of the node's first incarnation with the words `word`, 0 and 0.
 fn reference(alloc: Global, word: u32) -> Result<Reference, Refusal> {
     let words = ReferenceWords::new(&[word, 0, 0]).ok_or(Refusal::BadName)?;
     Ok(Reference {
@@ -77,7 +77,7 @@ fn said(alloc: Global, what: Said) -> Result<Payload, Refusal> {
     Ok(Payload::new(term))
 }
 
-/// A command of a process that names another one.
+/// Returns the command by which the process `from` acts on `to`.
 fn command_between(
     alloc: Global,
     event: Event,
@@ -106,7 +106,7 @@ fn command_between(
     })
 }
 
-/// A command of a process, or none.
+/// Returns the command of `event`: [`Command::Spawn`] if the event names no process and no registered name.
 fn command_of(alloc: Global, event: Event) -> Result<Command, Refusal> {
     Ok(match event {
         Event::Send(from, to, _)
@@ -135,11 +135,21 @@ fn command_of(alloc: Global, event: Event) -> Result<Command, Refusal> {
         Event::IsAlive(process) => Command::IsAlive {
             process: pid(alloc, process)?,
         },
+        Event::Register(process, name) => Command::Register {
+            process: pid(alloc, process)?,
+            name: atom(alloc, name)?,
+        },
+        Event::Unregister(process) => Command::Unregister {
+            process: pid(alloc, process)?,
+        },
+        Event::WhereIs(name) => Command::WhereIs {
+            name: atom(alloc, name)?,
+        },
         _ => Command::Spawn,
     })
 }
 
-/// A node's name, of whose text a proof knows nothing more.
+/// Reads a node's name. A proof knows nothing more of its text.
 fn node_name(alloc: Global, text: &str) -> Result<NodeName, Refusal> {
     NodeName::read(alloc, text)
 }
@@ -177,7 +187,7 @@ fn arrive_on(
     node.arrive(alloc, trunk, bytes, WORD)
 }
 
-/// All of the bytes are taken.
+/// Lets `bytes` come on a connection, and returns the report of the item at their front.
 fn arrive(
     alloc: Global,
     node: &mut Node,
@@ -191,7 +201,7 @@ fn arrive(
     }
 }
 
-/// What the node does at an event.
+/// Lets `event` happen at the node, and returns its report.
 pub fn act(alloc: Global, node: &mut Node, event: Event) -> Result<Report<Frame>, Refusal> {
     match event {
         Event::Local => node.local(alloc),

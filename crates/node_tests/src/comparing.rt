@@ -1,4 +1,4 @@
-//! What came of an event, beside what has to.
+//! The comparison of an event's outcome with the wanted one.
 use crate::acting::{act, atom, node, pid};
 use crate::rows::{Answered, Brought, Event, Process, Step, Text, Trunk};
 use dist_model::{Answer, Effect, Links, Report};
@@ -104,6 +104,8 @@ fn answers(answer: &Answer, wanted: Answered) -> bool {
         (Answer::Message(message), Answered::Empty) => message.is_none(),
         (Answer::Links(links), Answered::Links(wanted)) => are_links(links, wanted),
         (Answer::Alive(is), Answered::Alive(wanted)) => *is == wanted,
+        (Answer::Holder(Some(pid)), Answered::Holder(process)) => is_pid(pid, process),
+        (Answer::Holder(holder), Answered::Nobody) => holder.is_none(),
         (Answer::Trunk(trunk), Answered::Connection(wanted)) => is_trunk(trunk, wanted),
         (Answer::Took(kind), Answered::Took(wanted)) => *kind == wanted,
         (Answer::Broken(fault), Answered::Broken(number)) => fault.number() == number,
@@ -163,7 +165,7 @@ fn tells(report: &Report<Frame>, wanted: Answered, effects: Option<&[Brought]>) 
     are_these && answers(&report.answer, wanted)
 }
 
-/// Whether an event comes to this answer, and brings this about where that is told.
+/// Returns true if `event` has the answer `wanted` and, if given, the effects `effects`.
 fn does(
     alloc: Global,
     node: &mut Node,
@@ -177,7 +179,7 @@ fn does(
     Ok(is_so)
 }
 
-/// Whether an event is refused for this reason. Where memory is wanting, that is the error.
+/// Returns true if the node refuses `event` for the reason `why`. Returns an error if out of memory.
 fn refuses(alloc: Global, node: &mut Node, event: Event, why: Refusal) -> Result<bool, Refusal> {
     match act(alloc, node, event) {
         Ok(report) => {
@@ -189,7 +191,8 @@ fn refuses(alloc: Global, node: &mut Node, event: Event, why: Refusal) -> Result
     }
 }
 
-/// Whether all that travels from the node to itself has come after at most 100 events.
+/// Lets signals in flight from the node to itself come, in at most 100 events. Returns true once an event
+/// finds none.
 fn settles(alloc: Global, node: &mut Node) -> Result<bool, Refusal> {
     for _ in 0..100 {
         match node.local(alloc) {
@@ -201,7 +204,7 @@ fn settles(alloc: Global, node: &mut Node) -> Result<bool, Refusal> {
     Ok(false)
 }
 
-/// How a process stands.
+/// The state of a process.
 #[derive(Clone, Copy)]
 enum Standing<'a> {
     /// It lives, and traps exits or doesn't.
@@ -245,7 +248,7 @@ fn travels(alloc: Global, node: &Node, p: Process, q: Process) -> Result<bool, R
     Ok(!node.has_nothing_between(&p, &q))
 }
 
-/// Whether a step comes out as it has to.
+/// Returns true if `step` comes out as it has to.
 fn goes(alloc: Global, node: &mut Node, step: Step) -> Result<bool, Refusal> {
     match step {
         Step::Does(event, answer, effects) => does(alloc, node, event, answer, Some(effects)),
@@ -272,7 +275,8 @@ fn first_wrong(alloc: Global, node: &mut Node, steps: &[Step]) -> Result<Option<
     Ok(None)
 }
 
-/// The same of the steps behind those of a start, which all come out as they have to.
+/// Returns the index of the first of `steps` that comes out otherwise, behind the steps of `start`. Returns
+/// an error if a step of `start` comes out otherwise.
 fn first_wrong_behind(
     alloc: Global,
     node: &mut Node,
@@ -287,7 +291,7 @@ fn first_wrong_behind(
     first_wrong(alloc, node, steps)
 }
 
-/// The first step of a scenario, at a new node a@h, that comes out otherwise.
+/// Returns the index of the first of `steps` that comes out otherwise, at a new node a@h behind `start`.
 pub fn wrong_step(
     alloc: Global,
     start: [&[Step]; 2],

@@ -1,4 +1,4 @@
-//! What the processes of one node do to each other.
+//! The processes of one node: their signals, links, monitors, exits and names.
 use crate::comparing::wrong_step;
 use crate::rows::Answered::*;
 use crate::rows::Event::*;
@@ -16,10 +16,10 @@ const Q: Process = ("a@h", 1, 2);
 
 const R: Process = ("a@h", 1, 3);
 
-/// Never spawned.
+/// A process that the node never spawned.
 const STRANGER: Process = ("a@h", 1, 9);
 
-/// At another node, with no connection to it.
+/// A process at another node, with no connection to it.
 const AWAY: Process = ("b@h", 1, 1);
 
 const NORMAL: Said = Said::Atom("normal");
@@ -28,10 +28,10 @@ const KILL: Said = Said::Atom("kill");
 
 const BOOM: Said = Said::Atom("boom");
 
-/// Of more levels than a message may have.
+/// A term of more levels than a message may have.
 const DEEP: Said = Said::Nested(64);
 
-/// A new node.
+/// The start of a scenario at a new node: no steps.
 const NEW: [&[Step]; 2] = [&[], &[]];
 
 const SCENARIOS: &[&[Step]] = &[
@@ -52,8 +52,8 @@ const SCENARIOS: &[&[Step]] = &[
         Does(Receive(P), Message(Text::Exit(Q, "noproc")), &[]),
         Does(Receive(P), Empty, &[]),
     ],
-    // kill by another process can't be trapped, and its link tells killed; kill of a process by itself
-    // is told as any reason.
+    // A process can't trap kill by another process, and its link tells killed. Its own exit for kill tells
+    // kill, as for any reason.
     &[
         Goes(Spawn, Pid(1)),
         Goes(Spawn, Pid(2)),
@@ -74,7 +74,7 @@ const SCENARIOS: &[&[Step]] = &[
         Goes(Receive(Q), Message(Text::Exit(R, "kill"))),
         Goes(Receive(Q), Empty),
     ],
-    // A monitor that is taken back in time gives no DOWN, and is no more.
+    // A monitor that its owner ends in time gives no DOWN, and is no more.
     &[
         Goes(Spawn, Pid(1)),
         Goes(Spawn, Pid(2)),
@@ -108,7 +108,7 @@ const SCENARIOS: &[&[Step]] = &[
         Goes(Receive(P), Empty),
         Refuses(Demonitor(P, 1), Refusal::NotTheOwner),
     ],
-    // A process that links itself to itself is not linked. That it asks itself to end, it does.
+    // A process that links itself to itself is not linked. It ends if it asks itself to.
     &[
         Goes(Spawn, Pid(1)),
         Does(Link(P, P), Done, &[]),
@@ -130,7 +130,7 @@ const SCENARIOS: &[&[Step]] = &[
         ),
         HasEnded(P, "noconnection"),
     ],
-    // A link is made, and taken back under an id that its partner acknowledges.
+    // A process links itself to another, and unlinks itself under an id that its partner acknowledges.
     &[
         Goes(Spawn, Pid(1)),
         Goes(Spawn, Pid(2)),
@@ -153,10 +153,10 @@ const SCENARIOS: &[&[Step]] = &[
         Does(LinksOf(P), Links(&[]), &[]),
         Does(LinksOf(Q), Links(&[]), &[]),
         Refuses(Local, Refusal::NothingThere),
-        // A link that isn't there is taken back in silence.
+        // An unlink of no link does nothing.
         Does(Unlink(P, Q), Done, &[]),
     ],
-    // A process whose link is being taken back isn't told of the end of its partner, and doesn't tell.
+    // A process with a pending end tells its partner nothing when it ends.
     &[
         Goes(Spawn, Pid(1)),
         Goes(Spawn, Pid(2)),
@@ -195,7 +195,7 @@ const SCENARIOS: &[&[Step]] = &[
         // Nor to a process that can't be reached.
         Does(Send(P, AWAY, BOOM), Done, &[]),
     ],
-    // Refusals of a process that acts, that it acts on, and of what it sends: the first that fits.
+    // Refusals of the process that acts, of the one that it acts on, and of the term: the first that fits.
     &[
         Goes(Spawn, Pid(1)),
         IsUnknown(STRANGER),
@@ -220,7 +220,7 @@ const SCENARIOS: &[&[Step]] = &[
         Refuses(LinksOf(STRANGER), Refusal::NoSuchProcess),
         Does(IsAlive(STRANGER), Alive(false), &[]),
         Refuses(Local, Refusal::NothingThere),
-        // No reference was drawn for those that were refused.
+        // The refused calls have drawn no reference.
         Goes(Monitor(P, P), Reference(1)),
     ],
     // A node that stops: its processes are gone. It starts again in the next creation, in which ids
@@ -242,15 +242,57 @@ const SCENARIOS: &[&[Step]] = &[
         Refuses(Receive(P), Refusal::NoSuchProcess),
         Refuses(Local, Refusal::NothingThere),
     ],
+    // A name has one process, and a process one name. Refusals in their order. A process that ends loses
+    // its name in the same event.
+    &[
+        Goes(Spawn, Pid(1)),
+        Goes(Spawn, Pid(2)),
+        Does(WhereIs("srv"), Nobody, &[]),
+        Does(Register(P, "srv"), Done, &[]),
+        Does(WhereIs("srv"), Holder(P), &[]),
+        Refuses(Register(STRANGER, "undefined"), Refusal::NoSuchProcess),
+        Refuses(Register(AWAY, "srv"), Refusal::NoSuchProcess),
+        Refuses(Register(P, "undefined"), Refusal::BadName),
+        Refuses(Register(Q, "srv"), Refusal::NameTaken),
+        Refuses(Register(P, "srv"), Refusal::NameTaken),
+        Refuses(Register(P, "x"), Refusal::HasName),
+        Does(WhereIs("x"), Nobody, &[]),
+        Refuses(Unregister(STRANGER), Refusal::NoSuchProcess),
+        Refuses(Unregister(Q), Refusal::NoName),
+        Does(Register(Q, "x"), Done, &[]),
+        Does(ExitSelf(P, BOOM), Done, &[Brought::Ended(P, "boom")]),
+        Does(WhereIs("srv"), Nobody, &[]),
+        Does(WhereIs("x"), Holder(Q), &[]),
+        Refuses(Register(P, "srv"), Refusal::NoSuchProcess),
+        Refuses(Register(Q, "srv"), Refusal::HasName),
+        Does(Unregister(Q), Done, &[]),
+        Does(WhereIs("x"), Nobody, &[]),
+        Does(Register(Q, "srv"), Done, &[]),
+        Does(WhereIs("srv"), Holder(Q), &[]),
+    ],
+    // A stop drops all names.
+    &[
+        Goes(Spawn, Pid(1)),
+        Does(Register(P, ""), Done, &[]),
+        Does(WhereIs(""), Holder(P), &[]),
+        Does(Stop, Stopped, &[]),
+        Refuses(Register(P, "srv"), Refusal::NodeDown),
+        Refuses(Unregister(P), Refusal::NodeDown),
+        Refuses(WhereIs("srv"), Refusal::NodeDown),
+        Does(Start, Started(2), &[]),
+        Does(WhereIs(""), Nobody, &[]),
+        Refuses(Unregister(P), Refusal::NoSuchProcess),
+    ],
 ];
 
-/// The scenarios, named once: what names the table has it written out in its proof.
+/// Returns the scenarios. The proof of a function that names the table writes it out, so only this one
+/// names it.
 fn all() -> &'static [&'static [Step]] {
     SCENARIOS
 }
 
-/// The first scenario, of those at these places, that comes out otherwise, and its step that does; or a
-/// place at which there is none.
+/// Returns the index of the first scenario, of those at `places`, that comes out otherwise, and of its step
+/// that does. Returns an index without a scenario with step 0.
 fn first_wrong(
     alloc: Global,
     scenarios: &[&[Step]],
@@ -267,7 +309,7 @@ fn first_wrong(
     Ok(None)
 }
 
-/// The same of all.
+/// Returns the index of the first scenario of all that comes out otherwise, and of its step that does.
 fn first_wrong_of_all(
     alloc: Global,
     scenarios: &[&[Step]],
@@ -286,9 +328,9 @@ fn scenarios(rt: HostRuntime) -> Result<(), Fail> {
     Ok(())
 }
 
-/// Links, monitors and exits, for `fail-allocations`.
+/// Checks links, monitors, exits and names, for `fail-allocations`.
 #[test]
 fn processes_without_allocation(rt: HostRuntime) -> Result<(), Fail> {
-    assert_eq!(rt; first_wrong(rt.alloc(), all(), &[0, 1, 3, 7])?, None);
+    assert_eq!(rt; first_wrong(rt.alloc(), all(), &[0, 1, 3, 7, 11])?, None);
     Ok(())
 }

@@ -1,4 +1,4 @@
-//! The rows of a table: events at a node, and what comes of them.
+//! The rows of a table: events at a node, and their outcomes.
 use crate::wire::Wire;
 use dist_model::{Kind, Swept};
 use erl_term::Refusal;
@@ -9,16 +9,16 @@ pub type Process = (&'static str, u32, u32);
 /// A connection by the node that dialed it, and that node's count.
 pub type Trunk = (&'static str, u64);
 
-/// A message that is sent, or a reason.
+/// A message, or a reason.
 #[derive(Clone, Copy)]
 pub enum Said {
     /// An atom.
     Atom(&'static str),
-    /// A tuple in a tuple, and so on, of so many levels.
+    /// Tuples within tuples, with the number of levels.
     Nested(usize),
 }
 
-/// What happens at a node.
+/// An event at a node.
 #[derive(Clone, Copy)]
 pub enum Event {
     Spawn,
@@ -28,7 +28,7 @@ pub enum Event {
     Unlink(Process, Process),
     /// A process monitors another.
     Monitor(Process, Process),
-    /// A process takes the monitor back whose reference has this first word.
+    /// A process ends its monitor whose reference has this first word.
     Demonitor(Process, u32),
     Trap(Process, bool),
     /// A process asks another to end.
@@ -37,11 +37,17 @@ pub enum Event {
     Receive(Process),
     LinksOf(Process),
     IsAlive(Process),
-    /// The first signal comes that travels from the node to itself.
+    /// A process takes a name.
+    Register(Process, &'static str),
+    /// A process gives its name up.
+    Unregister(Process),
+    /// A caller asks for the process that has a name.
+    WhereIs(&'static str),
+    /// The first signal in flight from the node to itself comes.
     Local,
-    /// The node dials another, of which is told whether there is such a node.
+    /// The node dials another. The flag is true if there is such a node.
     Dial(&'static str, bool),
-    /// This comes on a connection.
+    /// Bytes come on a connection.
     Arrive(Trunk, Wire),
     /// A connection is lost.
     Lose(Trunk),
@@ -50,7 +56,7 @@ pub enum Event {
     Start,
 }
 
-/// What a message says.
+/// The content of a message.
 #[derive(Clone, Copy)]
 pub enum Text {
     /// An atom.
@@ -61,23 +67,27 @@ pub enum Text {
     Down(u32, Process, &'static str),
 }
 
-/// What a node answers.
+/// The answer of a node.
 #[derive(Clone, Copy)]
 pub enum Answered {
     Done,
-    /// The process of this id was spawned.
+    /// The id of the new process.
     Pid(u32),
     /// The reference's first word.
     Reference(u32),
     Message(Text),
     /// No message waits.
     Empty,
-    /// Partners, with the unlink id where the link is being taken back, and else 0.
+    /// Partners, each with the unlink id of a pending end, or with 0 for an active one.
     Links(&'static [(Process, u64)]),
     Alive(bool),
+    /// The process that has the name.
+    Holder(Process),
+    /// No process has the name.
+    Nobody,
     Connection(Trunk),
     Took(Kind),
-    /// What came broke the side, by a fault of this number.
+    /// The number of the fault that broke the side.
     Broken(u8),
     Swept(Swept),
     Stopped,
@@ -85,30 +95,30 @@ pub enum Answered {
     Started(u32),
 }
 
-/// What an event brings about.
+/// An effect of an event.
 #[derive(Clone, Copy)]
 pub enum Brought {
-    /// A message is put into a mailbox.
+    /// A message comes into the mailbox of a process.
     Put(Process, Text),
     /// A process ends, for this reason.
     Ended(Process, &'static str),
     /// A process reacts to the exit of its link to the other, for this reason.
     LinkExit(Process, Process, &'static str),
-    /// This is sent on a connection.
+    /// The node sends bytes on a connection.
     Sent(Trunk, Wire),
-    /// This is sent to the node itself.
+    /// The node sends a signal to itself.
     SentHome(Wire),
 }
 
 /// One row.
 #[derive(Clone, Copy)]
 pub enum Step {
-    /// The event comes to this.
+    /// An event, with its answer and its effects.
     Does(Event, Answered, &'static [Brought]),
-    /// The event comes to this answer. What it brings about is told by other rows.
+    /// An event, with its answer. Other rows tell its effects.
     Goes(Event, Answered),
     Refuses(Event, Refusal),
-    /// All comes that travels from the node to itself, until nothing does.
+    /// All signals in flight from the node to itself come, until none is left.
     Settles,
     /// A process is living, and traps exits or doesn't.
     Lives(Process, bool),
@@ -116,10 +126,10 @@ pub enum Step {
     HasEnded(Process, &'static str),
     /// There is no such process.
     IsUnknown(Process),
-    /// The connection that is up to a node.
+    /// The connection that is up to a node, if there is one.
     Routes(&'static str, Option<Trunk>),
-    /// How many processes the incarnation of this creation has spawned.
+    /// The creation of the node's incarnation, and the number of processes that it has spawned.
     HasSpawned(u32, u32),
-    /// Whether something travels between two processes of the node.
+    /// Two processes of the node, and true if something is in flight between them.
     Travels(Process, Process, bool),
 }

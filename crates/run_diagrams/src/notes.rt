@@ -1,4 +1,4 @@
-//! What happens at a node, in words.
+//! The events at a node, in words.
 
 use crate::messages::put_message;
 use crate::names::ProcessNames;
@@ -17,7 +17,7 @@ pub(crate) struct Words {
     pub(crate) words: String,
 }
 
-// A process that ends, and why.
+// Returns the words for a process that ends, with its exit reason.
 fn ended(
     alloc: Global,
     names: &ProcessNames,
@@ -34,7 +34,7 @@ fn ended(
     }))
 }
 
-// A process, and what it gets.
+// Returns the words for a process and the message that it gets.
 fn given(
     alloc: Global,
     names: &ProcessNames,
@@ -55,11 +55,11 @@ fn plain(alloc: Global, tone: Tone, text: &str) -> Result<Option<Words>, AllocEr
     Ok(Some(Words { tone, words }))
 }
 
-/// What an effect is on the lane of its node, if it is to be seen there: a message that is put, a process
-/// that ends.
+/// Returns the words for an effect on the lane of its node. [`None`] unless a process gets a message or
+/// ends.
 ///
 /// # Errors
-/// Where memory is wanting.
+/// [`AllocError`] if out of memory.
 pub(crate) fn of_effect<Item>(
     alloc: Global,
     names: &ProcessNames,
@@ -83,11 +83,11 @@ fn of_swept(alloc: Global, swept: Swept) -> Result<Option<Words>, AllocError> {
     plain(alloc, Tone::Plain, words)
 }
 
-/// What an answer is on the lane of its node, if it is to be seen there: a side that comes up, breaks or is
-/// swept, a node that stops or starts.
+/// Returns the words for an answer on the lane of its node. [`None`] unless a side comes up or breaks, a
+/// sweep removes a record, or the node stops or starts.
 ///
 /// # Errors
-/// Where memory is wanting.
+/// [`AllocError`] if out of memory.
 pub(crate) fn of_answer(alloc: Global, answer: &Answer) -> Result<Option<Words>, AllocError> {
     match answer {
         Answer::Took(Kind::ChallengeReply) => plain(alloc, Tone::Calm, "connected"),
@@ -113,18 +113,18 @@ pub(crate) fn of_answer(alloc: Global, answer: &Answer) -> Result<Option<Words>,
     }
 }
 
-/// A node's connection is lost, or an attempt at one is given up.
+/// Returns the words for a lost connection of a node, or an attempt that it gives up.
 ///
 /// # Errors
-/// Where memory is wanting.
+/// [`AllocError`] if out of memory.
 pub(crate) fn lost(alloc: Global) -> Result<Option<Words>, AllocError> {
     plain(alloc, Tone::Alarm, "connection lost")
 }
 
-/// How a process holds its link to another.
+/// Returns the words for a process and its end of a link.
 ///
 /// # Errors
-/// Where memory is wanting.
+/// [`AllocError`] if out of memory.
 pub(crate) fn of_end(
     alloc: Global,
     names: &ProcessNames,
@@ -143,11 +143,10 @@ pub(crate) fn of_end(
     Ok(Some(Words { tone, words }))
 }
 
-/// What is replied to a command, if there is more to be said of it than that it is done, and nothing of it
-/// stands on a lane.
+/// Returns the reply to a command. [`None`] if the answer has no value to tell, or stands on a lane.
 ///
 /// # Errors
-/// Where memory is wanting.
+/// [`AllocError`] if out of memory.
 pub(crate) fn of_reply(
     alloc: Global,
     node: &str,
@@ -158,12 +157,13 @@ pub(crate) fn of_reply(
         Answer::Message(_) => reply(alloc, node, answer),
         Answer::Links(_) => reply(alloc, node, answer),
         Answer::Alive(_) => reply(alloc, node, answer),
+        Answer::Holder(_) => reply(alloc, node, answer),
         Answer::Trunk(_) => reply(alloc, node, answer),
         _ => Ok(None),
     }
 }
 
-// The line that is printed of it.
+// Returns the printed text of an answer, without its line break.
 fn reply(alloc: Global, node: &str, answer: &Answer) -> Result<Option<String>, AllocError> {
     let mut text = String::new(alloc);
     put_answer(&mut text, node, answer)?;

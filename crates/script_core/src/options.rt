@@ -54,6 +54,9 @@ Commands of a script, one a line:
   receive p          the oldest message of p
   links p            the links of p
   alive p            whether p is living
+  register p ATOM    p takes a registered name at its node
+  unregister p       p gives its registered name up
+  whereis NODE ATOM  the process of NODE that has a registered name
   ends p q           how p and q hold their links to one another
   dial NODE PEER     NODE dials PEER
   route NODE PEER    the connection of NODE to PEER that is up

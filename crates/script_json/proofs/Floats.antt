@@ -15,7 +15,7 @@ use Rattle.link_core.specs.declared.end.End.{End}
 use Rattle.node_frames.specs.Frames.{Framed}
 use Rattle.script_json.specs.Events.{command_data, event_data}
 use Rattle.node_frames.specs.Kinds.{kind_in}
-use Rattle.script_json.specs.Reports.{answer_data, brought, came_data, effect_data, kind_data, line_data, link_data, message_data}
+use Rattle.script_json.specs.Reports.{answer_data, brought, came_data, effect_data, holder_data, kind_data, line_data, link_data, message_data}
 use Rattle.script_json.specs.Texts.{connection_if}
 use Rattle.serde_json.specs.View.{items_of}
 use Rattle.serde_json.specs.Written.{has_float, items_have_float}
@@ -38,9 +38,14 @@ in_links : (links : List (Pid × End)) → items_have_float (items_of (map link_
 in_links [] = refl
 in_links (link ∷ links) = in_links links
 
+in_holder : (holder : Option Pid) → has_float (holder_data holder) ≡ false
+in_holder None = refl
+in_holder (Some holder) = refl
+
 in_answer : (a : Answer) → has_float (answer_data a) ≡ false
 in_answer (answer.Message message) = ap (λ b. b || false) (in_message message)
 in_answer (answer.Links links) = ap (λ b. b || false) (in_links links)
+in_answer (answer.Holder holder) = ap (λ b. b || false) (in_holder holder)
 in_answer _ = refl
 
 in_effect : (effect : Effect Framed) → has_float (effect_data effect) ≡ false

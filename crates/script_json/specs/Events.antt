@@ -1,8 +1,8 @@
--- What happens at a node, in JSON: an object with the kind of the event, and what it is about.
+-- Events at a node, in JSON: an object with the kind of the event, and its parameters.
 use Rattle.std.specs.Prelude.{codes}
 use Rattle.dist_model.specs.declared.command.Command.{Command}
 use Rattle.dist_model.specs.declared.command.Command.TheVariants as command
-use Rattle.script_json.specs.Texts.{connection, monitor, payload, process}
+use Rattle.script_json.specs.Texts.{atom, connection, monitor, payload, process}
 use Rattle.serde_json.specs.Data.{Data, boolean, member, no_members, number, object, string, unsigned}
 use Rattle.node_core.specs.declared.node_event.NodeEvent.{NodeEvent}
 use Rattle.node_core.specs.declared.node_event.NodeEvent.TheVariants as event
@@ -37,8 +37,15 @@ command_data (command.Receive p) =
     object (member (codes "kind") (string (codes "receive")) (member (codes "process") (process p) no_members))
 command_data (command.LinksOf p) = object (member (codes "kind") (string (codes "links")) (member (codes "process") (process p) no_members))
 command_data (command.IsAlive p) = object (member (codes "kind") (string (codes "alive")) (member (codes "process") (process p) no_members))
+command_data (command.Register p name) =
+    object (member (codes "kind") (string (codes "register"))
+    (member (codes "name") (atom name) (member (codes "process") (process p) no_members)))
+command_data (command.Unregister p) =
+    object (member (codes "kind") (string (codes "unregister")) (member (codes "process") (process p) no_members))
+command_data (command.WhereIs name) =
+    object (member (codes "kind") (string (codes "whereis")) (member (codes "name") (atom name) no_members))
 
--- the challenge of an arrival is of use where the connection is new, and isn't told
+-- the object of an arrival leaves out the challenge, which only a new connection uses
 abbrev pub event_data : NodeEvent → Data
 event_data (event.Call command) = command_data command
 event_data (event.Arrive trunk word) =

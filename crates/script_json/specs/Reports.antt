@@ -1,4 +1,4 @@
--- What came of an event, in JSON: what the node answers or why it refuses, and what the event brought about.
+-- The outcome of an event, in JSON: the node's answer or refusal, and the effects of the event.
 use Rattle.std.specs.Prelude.{ℕ, List, [], Option, None, Some, Result, Ok, Err, codes, map}
 use Rattle.conn_core.specs.FaultNumbers.{fault_number}
 use Rattle.dist_model.specs.declared.report.Answer.{Answer}
@@ -33,6 +33,10 @@ abbrev pub message_data : Option terms.Data → Data
 message_data None = null
 message_data (Some message) = payload message
 
+abbrev pub holder_data : Option Pid → Data
+holder_data None = null
+holder_data (Some p) = process p
+
 abbrev pub link_data : Pid × End → Data
 link_data link = object (member (codes "end") (string (end_text link.1)) (member (codes "partner") (process link.0) no_members))
 
@@ -47,6 +51,8 @@ answer_data (answer.Links links) =
     object (member (codes "kind") (string (codes "links")) (member (codes "links") (array (items_of (map link_data links))) no_members))
 answer_data (answer.Alive living) =
     object (member (codes "alive") (boolean living) (member (codes "kind") (string (codes "alive")) no_members))
+answer_data (answer.Holder holder) =
+    object (member (codes "holder") (holder_data holder) (member (codes "kind") (string (codes "holder")) no_members))
 answer_data (answer.Trunk trunk) =
     object (member (codes "kind") (string (codes "trunk")) (member (codes "trunk") (connection trunk) no_members))
 answer_data (answer.Took kind) =
@@ -65,7 +71,7 @@ refusal_data refusal =
     object (member (codes "kind") (string (codes "refused")) (member (codes "name") (string (refusal_name refusal))
     (member (codes "number") (number (unsigned (refusal_number refusal))) no_members)))
 
--- ---- what an event brought about
+-- ---- effects
 
 abbrev pub effect_data : Effect Framed → Data
 effect_data (Effect.Put to message) =

@@ -1,8 +1,8 @@
-//! What a node answers, in JSON.
+//! The answers and the refusals of a node, in JSON.
 ghost use Rattle.std.specs.Prelude.{◌≡◌, IfOk, map};
 ghost use Rattle.std.specs.Option.{option_copied};
 ghost use Rattle.dist_model.specs.declared.report.Answer.TheVariants as answer;
-ghost use Rattle.script_json.specs.Reports.{answer_data, link_data, message_data, refusal_data};
+ghost use Rattle.script_json.specs.Reports.{answer_data, holder_data, link_data, message_data, refusal_data};
 ghost use Rattle.serde_json.specs.Data.{array, string};
 ghost use Rattle.serde_json.specs.View.{items_of, view};
 ghost use Rattle.script_texts.specs.Texts.{end_text};
@@ -87,6 +87,22 @@ fn taken(alloc: Global, taken: Option<&Payload>) -> Result<Value, AllocError>
     told(alloc, "message", "message", taken)
 }
 
+fn process_if(alloc: Global, process: Option<&Pid>) -> Result<Value, AllocError>
+    ensures { IfOk result (λ v. view v ≡ holder_data (option_copied process.entry)) }
+{
+    match process {
+        Some(process) => Ok(Value::String(printed_pid(alloc, process)?)),
+        None => Ok(Value::Null),
+    }
+}
+
+fn holder(alloc: Global, holder: Option<&Pid>) -> Result<Value, AllocError>
+    ensures { IfOk result (λ v. view v ≡ answer_data (answer.Holder (option_copied holder.entry))) }
+{
+    let holder = process_if(alloc, holder)?;
+    told(alloc, "holder", "holder", holder)
+}
+
 fn held(alloc: Global, held: &Links) -> Result<Value, AllocError>
     ensures { IfOk result (λ v. view v ≡ answer_data (answer.Links held.now)) }
 {
@@ -94,7 +110,7 @@ fn held(alloc: Global, held: &Links) -> Result<Value, AllocError>
     told(alloc, "links", "links", held)
 }
 
-/// What a node answers to an event that it accepts.
+/// Returns the object of a node's answer to an event that it accepts.
 pub(crate) fn answer(alloc: Global, answer: &Answer) -> Result<Value, AllocError>
     ensures { IfOk result (λ v. view v ≡ answer_data answer.now) }
 {
@@ -105,6 +121,7 @@ pub(crate) fn answer(alloc: Global, answer: &Answer) -> Result<Value, AllocError
         Answer::Message(message) => taken(alloc, message.as_ref()),
         Answer::Links(links) => held(alloc, links),
         Answer::Alive(living) => told(alloc, "alive", "alive", Value::Bool(*living)),
+        Answer::Holder(of) => holder(alloc, of.as_ref()),
         Answer::Trunk(of) => trunk(alloc, of),
         Answer::Took(kind) => told_text(alloc, "took", "item", kind_name(*kind)),
         Answer::Broken(fault) => broken(alloc, *fault),
@@ -114,7 +131,7 @@ pub(crate) fn answer(alloc: Global, answer: &Answer) -> Result<Value, AllocError
     }
 }
 
-/// Why a node refuses an event.
+/// Returns the object of a refusal: its kind, its name and its number.
 pub(crate) fn refusal(alloc: Global, refusal: Refusal) -> Result<Value, AllocError>
     ensures { IfOk result (λ v. view v ≡ refusal_data refusal) }
 {

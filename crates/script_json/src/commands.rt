@@ -1,12 +1,12 @@
-//! What a caller asks of a node, in JSON.
+//! The commands of a caller to a node, in JSON.
 ghost use Rattle.std.specs.Prelude.{◌≡◌, IfOk};
 ghost use Rattle.dist_model.specs.declared.command.Command.TheVariants as command;
 ghost use Rattle.script_json.specs.Events.{command_data};
 ghost use Rattle.serde_json.specs.View.{view};
 
-use crate::texts::{printed_pid, printed_reference, printed_term};
+use crate::texts::{printed_atom, printed_pid, printed_reference, printed_term};
 use dist_model::Command;
-use erl_term::{Payload, Pid, Reference};
+use erl_term::{Atom, Payload, Pid, Reference};
 use serde_json::{Value, json};
 use std::alloc::{AllocError, Global};
 
@@ -98,7 +98,28 @@ fn alive(alloc: Global, process: &Pid) -> Result<Value, AllocError>
     json!(in alloc; {"kind": "alive", "process": text})
 }
 
-/// What a caller asks for.
+fn register(alloc: Global, process: &Pid, name: &Atom) -> Result<Value, AllocError>
+    ensures { IfOk result (λ v. view v ≡ command_data (command.Register process.now name.now)) }
+{
+    let (text, name) = (printed_pid(alloc, process)?, printed_atom(alloc, name)?);
+    json!(in alloc; {"kind": "register", "name": name, "process": text})
+}
+
+fn unregister(alloc: Global, process: &Pid) -> Result<Value, AllocError>
+    ensures { IfOk result (λ v. view v ≡ command_data (command.Unregister process.now)) }
+{
+    let text = printed_pid(alloc, process)?;
+    json!(in alloc; {"kind": "unregister", "process": text})
+}
+
+fn whereis(alloc: Global, name: &Atom) -> Result<Value, AllocError>
+    ensures { IfOk result (λ v. view v ≡ command_data (command.WhereIs name.now)) }
+{
+    let text = printed_atom(alloc, name)?;
+    json!(in alloc; {"kind": "whereis", "name": text})
+}
+
+/// Returns the object of a command.
 pub(crate) fn command(alloc: Global, command: &Command) -> Result<Value, AllocError>
     ensures { IfOk result (λ v. view v ≡ command_data command.now) }
 {
@@ -115,5 +136,8 @@ pub(crate) fn command(alloc: Global, command: &Command) -> Result<Value, AllocEr
         Command::Receive { process } => receive(alloc, process),
         Command::LinksOf { process } => links(alloc, process),
         Command::IsAlive { process } => alive(alloc, process),
+        Command::Register { process, name } => register(alloc, process, name),
+        Command::Unregister { process } => unregister(alloc, process),
+        Command::WhereIs { name } => whereis(alloc, name),
     }
 }

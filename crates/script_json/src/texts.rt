@@ -1,10 +1,10 @@
-//! Texts of their own: processes, monitors, terms and connections, as scripts print them.
+//! The texts of processes, monitors, atoms, terms and connections, as scripts print them.
 ghost use Rattle.std.specs.Prelude.{◌≡◌, IfOk, string_bytes};
-ghost use Rattle.script_terms.specs.Printing.{pid_text, reference_text, term_text};
+ghost use Rattle.script_terms.specs.Printing.{atom_text, pid_text, reference_text, term_text};
 ghost use Rattle.script_texts.specs.Texts.{trunk_text};
 
 use erl_names::TrunkId;
-use erl_term::{Payload, Pid, Reference};
+use erl_term::{Atom, Payload, Pid, Reference, Term};
 use script_terms::{put_pid, put_reference, put_term};
 use script_texts::put_trunk;
 use std::alloc::{AllocError, Global};
@@ -22,6 +22,14 @@ pub(crate) fn printed_reference(alloc: Global, reference: &Reference) -> Result<
 {
     let mut text = String::new(alloc);
     put_reference(&mut text, reference)?;
+    Ok(text)
+}
+
+pub(crate) fn printed_atom(alloc: Global, atom: &Atom) -> Result<String, AllocError>
+    ensures { IfOk result (λ text. string_bytes text ≡ atom_text atom.now) }
+{
+    let mut text = String::new(alloc);
+    put_term(&mut text, &Term::Atom(atom.clone()?))?;
     Ok(text)
 }
 

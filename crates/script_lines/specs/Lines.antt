@@ -1,11 +1,11 @@
--- What a line of a script says, nothing where it is to be passed over, or why it is a bad line.
+-- The meaning of a line of a script: None for a comment or a line of no word, or the reason of a bad line.
 use Rattle.std.specs.Prelude.{◌≡◌, ℕ, ◌==◌, Bool, true, false, List, [], ◌∷◌, length}
 use Rattle.std.specs.Prelude.{Option, None, Some, Result, Ok, Err, nat_lt, if◌then◌else◌}
 use Rattle.std.specs.Str.{is_utf8}
 use Rattle.erl_term.specs.Reading.{◌>>=◌}
 use Rattle.script_lines.specs.Commands.{verb_named}
 use Rattle.script_lines.specs.Naming.{process_named, processes_named, monitor_named, demonitor_named}
-use Rattle.script_lines.specs.Naming.{nodes_formed, node_formed, spawn_formed, formed, switch_named, profile_in, term_read}
+use Rattle.script_lines.specs.Naming.{nodes_formed, node_formed, spawn_formed, formed, switch_named, profile_in, atom_read, term_read}
 use Rattle.script_lines.specs.Said.{Said, said}
 use Rattle.script_lines.specs.Said as says
 use Rattle.script_lines.specs.Words.{word_of, behind_word, no_words, one_word, two_words, two_words_or_three, three_words}
@@ -20,12 +20,12 @@ use Rattle.erl_names.specs.Name.{is_node_name}
 use Rattle.erl_term.specs.declared.term.Pid.{Pid}
 use Rattle.script_terms.specs.Binding.{Look}
 
--- a line that stands where it may not is of wrong words
+-- a line out of its place has wrong words
 abbrev pub placed : Bool → Result (Unit {0}) Reason
 placed true = Ok tt
 placed false = Err WrongWords
 
--- the words that follow: two nodes, one node, two processes, one process, and processes with a term
+-- the words behind a verb: two nodes, one node, two processes, one process, and processes with a term
 abbrev pub nodes_in : List ℕ → Result (List ℕ × List ℕ) Reason
 nodes_in rest = two_words rest >>= λ words. nodes_formed words.0 words.1 >>= λ _. Ok words
 
@@ -59,6 +59,11 @@ verb_says may look verb.Demonitor rest =
     two_words rest >>= λ words. demonitor_named look words.0 words.1 >>= λ ids. Ok (says.Demonitor ids.0 ids.1)
 verb_says may look verb.Trap rest =
     two_words rest >>= λ words. switch_named words.1 >>= λ on. process_named look words.0 >>= λ p. Ok (says.Trap p on)
+verb_says may look verb.Register rest =
+    word_and_text rest >>= λ words. process_named look words.0 >>= λ p. atom_read look words.1 >>= λ _. Ok (says.Register p words.1)
+verb_says may look verb.WhereIs rest =
+    word_and_text rest >>= λ words. formed (is_node_name words.0) >>= λ _. atom_read look words.1 >>= λ _.
+    Ok (says.WhereIs words.0 words.1)
 verb_says may look verb.Send rest = processes_and_term_in look rest >>= λ it. Ok (says.Send it.0 it.1 it.2)
 verb_says may look verb.Exit rest = processes_and_term_in look rest >>= λ it. Ok (says.Exit it.0 it.1 it.2)
 verb_says may look verb.Die rest = process_and_term_in look rest >>= λ it. Ok (says.Die it.0 it.1)
@@ -68,6 +73,7 @@ verb_says may look verb.Ends rest = processes_in look rest >>= λ pids. Ok (says
 verb_says may look verb.Receive rest = process_in look rest >>= λ p. Ok (says.Receive p)
 verb_says may look verb.Links rest = process_in look rest >>= λ p. Ok (says.Links p)
 verb_says may look verb.Alive rest = process_in look rest >>= λ p. Ok (says.Alive p)
+verb_says may look verb.Unregister rest = process_in look rest >>= λ p. Ok (says.Unregister p)
 verb_says may look verb.Dial rest = nodes_in rest >>= λ nodes. Ok (says.Dial nodes.0 nodes.1)
 verb_says may look verb.Route rest = nodes_in rest >>= λ nodes. Ok (says.Route nodes.0 nodes.1)
 verb_says may look verb.Lose rest = nodes_in rest >>= λ nodes. Ok (says.Lose nodes.0 nodes.1)
@@ -84,7 +90,7 @@ abbrev pub found : Option Verb → Result Verb Reason
 found None = Err UnknownCommand
 found (Some verb) = Ok verb
 
--- a line of no word is passed over, and so is a comment
+-- a line of no word means nothing, and so does a comment
 abbrev pub words_say : MayCome → Look → (word rest : List ℕ) → Result (Option Said) Reason
 words_say may look [] rest = Ok None
 words_say may look (c ∷ cs) rest =
@@ -97,11 +103,11 @@ line_says may look line =
     else if is_utf8 line then words_say may look (word_of line) (behind_word line)
     else Err NotText
 
--- the command that a line begins with, of a line that isn't too long, and is text
+-- the verb that a line begins with, unless the line is too long or isn't UTF-8
 abbrev pub verb_in : List ℕ → Option Verb
 verb_in line = if nat_lt 65536 (length line) then None else if is_utf8 line then verb_named (word_of line) else None
 
--- what a function read is what a line says
+-- the result of a function is the meaning of the line
 abbrev pub Reads : Result Said Reason → Result Line Reason → Type 0
 Reads says (Ok line) = says ≡ Ok (said line)
 Reads says (Err e) = says ≡ Err e

@@ -1,10 +1,10 @@
 -- The things that the words of a line name, or the first fault.
-use Rattle.std.specs.Prelude.{ℕ, ◌&&◌, Bool, true, false, List, length, codes, Option, None, Some, Result, Ok, Err, nat_le, if◌then◌else◌}
+use Rattle.std.specs.Prelude.{ℕ, ◌==◌, ◌&&◌, ◌||◌, Bool, true, false, List, [], ◌∷◌, length, codes, Option, None, Some, Result, Ok, Err, nat_le, if◌then◌else◌}
 use Rattle.std.specs.List.{list_all}
 use Rattle.std.specs.Str.{bytes_eq}
 use Rattle.erl_handshake.specs.declared.profile.Profile.{Profile}
 use Rattle.erl_names.specs.Name.{is_node_name}
-use Rattle.erl_term.specs.Data.{Data}
+use Rattle.erl_term.specs.Data.{Data, atom}
 use Rattle.erl_term.specs.Reading.{◌>>=◌}
 use Rattle.erl_term.specs.declared.term.Pid.{Pid}
 use Rattle.erl_term.specs.declared.term.Reference.{Reference}
@@ -13,13 +13,13 @@ use Rattle.script_lines.specs.declared.reason.Reason.TheVariants.{WrongWords, Ba
 use Rattle.script_terms.specs.Binding.{Look}
 use Rattle.script_terms.specs.Reading.{term_of}
 use Rattle.script_terms.specs.Unbound.{has_unbound}
-use Rattle.script_terms.specs.Words.{is_name}
+use Rattle.script_terms.specs.Words.{is_lower, is_name}
 use Rattle.script_terms.specs.declared.fault.TermFault.{TermFault}
 use Rattle.script_terms.specs.declared.fault.TermFault.TheVariants as fault
 use Rattle.script_terms.specs.declared.names.Named.{Named}
 use Rattle.script_terms.specs.declared.names.Named.TheVariants.{Process, Monitor}
 
--- words that have the forms that they should
+-- words have their forms, or are bad names
 abbrev pub formed : Bool → Result (Unit {0}) Reason
 formed true = Ok tt
 formed false = Err BadName
@@ -34,7 +34,7 @@ is_cookie_length n = nat_le 1 n && nat_le n 255
 abbrev pub is_cookie : List ℕ → Bool
 is_cookie word = is_cookie_length (length word) && list_all is_printable word
 
--- the name has to be bound to a thing of the kind
+-- the name has to name a thing of the kind
 abbrev pub process_in : Option Named → Result Pid Reason
 process_in (Some (Process p)) = Ok p
 process_in (Some (Monitor r)) = Err UnknownName
@@ -45,7 +45,7 @@ reference_in (Some (Monitor r)) = Ok r
 reference_in (Some (Process p)) = Err UnknownName
 reference_in None = Err UnknownName
 
--- a name that is to be bound has to be free
+-- a new name has to be free
 abbrev pub free_in : Option Named → Result (Unit {0}) Reason
 free_in None = Ok tt
 free_in (Some named) = Err NameTaken
@@ -93,7 +93,7 @@ abbrev pub reason_of : TermFault → Reason
 reason_of fault.UnknownName = UnknownName
 reason_of fault.BadTerm = BadTerm
 
--- a name that is bound to nothing decides before any other fault
+-- an unbound name comes before any other fault
 abbrev pub fault_in : (has_unbound : Bool) → TermFault → Reason
 fault_in true e = UnknownName
 fault_in false e = reason_of e
@@ -104,3 +104,16 @@ is_term unbound (Err e) = Err (fault_in unbound e)
 
 abbrev pub term_read : Look → List ℕ → Result (Unit {0}) Reason
 term_read look text = is_term (has_unbound look text) (term_of look text)
+
+-- a text has to be an atom, bare or between quotes
+abbrev pub is_atom : Result Data TermFault → Result (Unit {0}) Reason
+is_atom (Ok (atom a)) = Ok tt
+is_atom _ = Err BadTerm
+
+abbrev pub atom_read : Look → List ℕ → Result (Unit {0}) Reason
+atom_read look text = is_atom (term_of look text)
+
+-- an atom begins with a quote or a lower-case letter, and no other term does
+abbrev pub begins_atom : List ℕ → Bool
+begins_atom [] = false
+begins_atom (c ∷ cs) = (c == 39) || is_lower c

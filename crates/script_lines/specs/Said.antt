@@ -1,4 +1,4 @@
--- What a line says, without where its words lie. A term is given by its text.
+-- The meaning of a line, without the places of its words. Terms and atoms stand as their texts.
 use Rattle.std.specs.Prelude.{ℕ, Bool, List}
 use Rattle.erl_handshake.specs.declared.profile.Profile.{Profile}
 use Rattle.erl_term.specs.declared.term.Pid.{Pid}
@@ -21,6 +21,9 @@ pub data Said : Type 0 where
   Receive : (process : Pid) → Said
   Links : (process : Pid) → Said
   Alive : (process : Pid) → Said
+  Register : (process : Pid) → (name : List ℕ) → Said
+  Unregister : (process : Pid) → Said
+  WhereIs : (node name : List ℕ) → Said
   Ends : (first second : Pid) → Said
   Dial : (node peer : List ℕ) → Said
   Route : (node peer : List ℕ) → Said
@@ -49,6 +52,9 @@ said (line.Die process term) = Die process.now term.now
 said (line.Receive process) = Receive process.now
 said (line.Links process) = Links process.now
 said (line.Alive process) = Alive process.now
+said (line.Register process name) = Register process.now name.now
+said (line.Unregister process) = Unregister process.now
+said (line.WhereIs node name) = WhereIs node.now name.now
 said (line.Ends first second) = Ends first.now second.now
 said (line.Dial node peer) = Dial node.now peer.now
 said (line.Route node peer) = Route node.now peer.now

@@ -13,7 +13,7 @@ const TABS: &str = "; words are parted by spaces, not by tabs";
 /// that the script has bound before the line.
 ///
 /// # Errors
-/// [`AllocError`] if there is no memory.
+/// [`AllocError`] if out of memory.
 pub fn put_advice(
     alloc: Global,
     out: &mut String,
@@ -47,7 +47,7 @@ fn put_of_text(
         (Reason::BadName, Some(usage)) => put_bad_name(out, usage, text),
         (Reason::UnknownName, Some(usage)) => put_unknown_name(out, names, usage, text),
         (Reason::NameTaken, Some(usage)) => put_name_taken(out, usage, text),
-        (Reason::BadTerm, _) => put_bad_term(out, text),
+        (Reason::BadTerm, Some(usage)) => put_bad_term(out, usage, text),
         _ => Ok(()),
     }
 }
@@ -99,13 +99,13 @@ fn put_wrong_profile(out: &mut String, usage: &str, text: &str) -> Result<(), Al
     Ok(())
 }
 
-/// Returns true if a word has the form that is wanted in its place.
+/// Returns true if `word` has the form of `wanted`, the word of the usage in its place.
 fn has_form(wanted: &str, word: &str) -> bool {
     match wanted {
         "NODE" | "PEER" | "NAME" => NodeName::fits(word),
         "COOKIE" => word.len() <= 255 && word.bytes().all(|byte| byte.is_ascii_graphic()),
         "[PROFILE]" => word == "1" || word == "2",
-        "TERM" => true,
+        "TERM" | "ATOM" => true,
         _ => is_name(word),
     }
 }
@@ -137,7 +137,7 @@ fn put_unknown_name(
 ) -> Result<(), AllocError> {
     let words = text.split(' ').filter(|word| !word.is_empty());
     for (wanted, word) in usage.split(' ').zip(words).skip(1) {
-        if wanted == "TERM" {
+        if wanted == "TERM" || wanted == "ATOM" {
             break;
         }
         match names.get(word) {
@@ -173,7 +173,7 @@ fn word_at(text: &str) -> &str {
     }
 }
 
-// Puts the first name behind a '$' of a term that no line has given. Text in quotes has no such name.
+// Appends the first name behind a '$' of a term that no line has given. Text in quotes has no such name.
 fn put_unbound(out: &mut String, names: &Names, text: &str) -> Result<(), AllocError> {
     for part in text.split('\'').step_by(2) {
         for behind in part.split('$').skip(1) {
@@ -205,14 +205,16 @@ fn put_name_taken(out: &mut String, usage: &str, text: &str) -> Result<(), Alloc
     }
 }
 
-fn put_bad_term(out: &mut String, text: &str) -> Result<(), AllocError> {
-    out.push_str(
-        "a term is an integer, an atom, '{..}', '[..]', '<<..>>' or '$name', with no spaces outside quotes",
-    )?;
+fn put_bad_term(out: &mut String, usage: &str, text: &str) -> Result<(), AllocError> {
+    out.push_str(if usage.ends_with(" ATOM") {
+        "an atom is a lower-case letter, then letters, digits, '_' and '@', or text in quotes, as 'two words', of 255 characters at most"
+    } else {
+        "a term is an integer, an atom, '{..}', '[..]', '<<..>>' or '$name', with no spaces outside quotes"
+    })?;
     put_line_end(out, text)
 }
 
-/// Puts the remedy for a line that ends with a carriage return.
+/// Appends the remedy for a line that ends with a carriage return.
 fn put_line_end(out: &mut String, text: &str) -> Result<(), AllocError> {
     if text.ends_with('\r') {
         return out.push_str("; the line ends with '\\r': lines end with a line feed alone");

@@ -33,6 +33,12 @@ pub enum Verb {
     Links,
     /// `alive`
     Alive,
+    /// `register`
+    Register,
+    /// `unregister`
+    Unregister,
+    /// `whereis`
+    WhereIs,
     /// `ends`
     Ends,
     /// `dial`
@@ -60,7 +66,7 @@ pub enum Verb {
 }
 
 impl Verb {
-    /// The verb of a word.
+    /// Returns the verb that `word` spells, if it spells one.
     pub fn named(word: &str) -> Option<Verb>
         ensures { result ≡ verb_named word.now }
     {
@@ -79,6 +85,9 @@ impl Verb {
             "receive" => Some(Verb::Receive),
             "links" => Some(Verb::Links),
             "alive" => Some(Verb::Alive),
+            "register" => Some(Verb::Register),
+            "unregister" => Some(Verb::Unregister),
+            "whereis" => Some(Verb::WhereIs),
             "ends" => Some(Verb::Ends),
             "dial" => Some(Verb::Dial),
             "route" => Some(Verb::Route),

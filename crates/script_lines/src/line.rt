@@ -1,10 +1,10 @@
-//! What a line says, once its names are looked up.
+//! The meaning of a line, once its names are looked up.
 
 use erl_handshake::Profile;
 use erl_term::{Pid, Reference};
 
-/// The meaning of a line. Words and terms are as they stand in the line: nodes may be unknown, a term
-/// is known to be one.
+/// The meaning of a line. Words and terms are as they stand in the line. Nodes may be unknown. The text of
+/// a TERM is a term, and that of an ATOM an atom.
 #[derive(Clone, Copy, Debug)]
 pub enum Line<'a> {
     /// `node NAME COOKIE [PROFILE]`
@@ -15,7 +15,7 @@ pub enum Line<'a> {
     },
     /// `pair`
     Pair,
-    /// `spawn NODE name`, of a name that nothing has.
+    /// `spawn NODE name`, with a free name.
     Spawn {
         node: &'a str,
         name: &'a str,
@@ -36,7 +36,7 @@ pub enum Line<'a> {
         from: &'a Pid,
         to: &'a Pid,
     },
-    /// `monitor p q ref`, of a name that nothing has.
+    /// `monitor p q ref`, with a free name.
     Monitor {
         owner: &'a Pid,
         target: &'a Pid,
@@ -74,6 +74,20 @@ pub enum Line<'a> {
     /// `alive p`
     Alive {
         process: &'a Pid,
+    },
+    /// `register p ATOM`
+    Register {
+        process: &'a Pid,
+        name: &'a str,
+    },
+    /// `unregister p`
+    Unregister {
+        process: &'a Pid,
+    },
+    /// `whereis NODE ATOM`
+    WhereIs {
+        node: &'a str,
+        name: &'a str,
     },
     /// `ends p q`
     Ends {

@@ -1,7 +1,7 @@
 //! The things that the words of a line name.
 ghost use Rattle.std.specs.Prelude.{◌≡◌, ◌&&◌};
 ghost use Rattle.std.specs.Option.{option_copied};
-ghost use Rattle.script_lines.specs.Naming.{demonitor_named, formed, free_in, is_cookie, is_cookie_length, is_printable, monitor_named, node_formed, nodes_formed, process_in, process_named, processes_named, profile_in, profile_named, reference_in, spawn_formed, switch_named, term_read};
+ghost use Rattle.script_lines.specs.Naming.{atom_read, begins_atom, demonitor_named, formed, free_in, is_cookie, is_cookie_length, is_printable, monitor_named, node_formed, nodes_formed, process_in, process_named, processes_named, profile_in, profile_named, reference_in, spawn_formed, switch_named, term_read};
 ghost use Rattle.script_lines.specs.Words.{Answers};
 ghost use Rattle.script_terms.specs.Binding.{Look, Knows};
 ghost use Rattle.script_terms.specs.declared.names.Named.{Named};
@@ -12,7 +12,7 @@ use erl_names::NodeName;
 use erl_term::{Pid, Reference};
 use script_terms::{Named, Names, check_term, has_unbound, is_name};
 
-/// Words have to have the forms that they should.
+/// Refuses words as [`Reason::BadName`] unless `is_formed`.
 pub(crate) fn formed(is_formed: bool) -> Result<(), Reason>
     ensures { result ≡ formed is_formed }
 {
@@ -23,7 +23,7 @@ pub(crate) fn formed(is_formed: bool) -> Result<(), Reason>
     }
 }
 
-// Returns true if a cookie may have so many characters.
+// Returns true if a cookie may have `len` characters.
 fn is_cookie_len(len: usize) -> bool
     ensures { result ≡ is_cookie_length len }
 {
@@ -69,7 +69,7 @@ fn free_in(names: &Names, word: &str) -> Result<(), Reason>
     }
 }
 
-/// The process of a name.
+/// Returns the process that `word` names.
 pub(crate) fn process_named<'a>(names: &'a Names, word: &str) -> Result<&'a Pid, Reason>
     ensures { (look : Look) → Knows names.now look → Answers (λ p. p.now) result (process_named look word.now) }
 {
@@ -77,7 +77,7 @@ pub(crate) fn process_named<'a>(names: &'a Names, word: &str) -> Result<&'a Pid,
     process_in(names, word)
 }
 
-/// The processes of two names.
+/// Returns the processes that `first` and `second` name.
 pub(crate) fn processes_named<'a>(
     names: &'a Names,
     first: &str,
@@ -91,7 +91,7 @@ pub(crate) fn processes_named<'a>(
     Ok((first, second))
 }
 
-/// The processes of a monitor that is to get a name.
+/// Returns the owner and the target of a monitor. Refuses a `name` for it that isn't free.
 pub(crate) fn monitor_named<'a>(
     names: &'a Names,
     owner: &str,
@@ -107,7 +107,7 @@ pub(crate) fn monitor_named<'a>(
     Ok((owner, target))
 }
 
-/// The process and the reference of two names.
+/// Returns the process that `owner` names, and the reference that `reference` names.
 pub(crate) fn demonitor_named<'a>(
     names: &'a Names,
     owner: &str,
@@ -121,14 +121,14 @@ pub(crate) fn demonitor_named<'a>(
     Ok((owner, reference))
 }
 
-/// Two words have to be names of nodes.
+/// Checks that two words have the form of a node's name.
 pub(crate) fn nodes_formed(node: &str, peer: &str) -> Result<(), Reason>
     ensures { result ≡ nodes_formed node.now peer.now }
 {
     formed(NodeName::fits(node) && NodeName::fits(peer))
 }
 
-/// A node's name, and a name that is free.
+/// Checks that `node` has the form of a node's name, and that `name` is a free name.
 pub(crate) fn spawn_formed(names: &Names, node: &str, name: &str) -> Result<(), Reason>
     ensures { (look : Look) → Knows names.now look → result ≡ spawn_formed look node.now name.now }
 {
@@ -136,14 +136,14 @@ pub(crate) fn spawn_formed(names: &Names, node: &str, name: &str) -> Result<(), 
     free_in(names, name)
 }
 
-/// A node's name and a cookie.
+/// Checks that two words have the form of a node's name and that of a cookie.
 pub(crate) fn node_formed(name: &str, cookie: &str) -> Result<(), Reason>
     ensures { result ≡ node_formed name.now cookie.now }
 {
     formed(NodeName::fits(name) && is_cookie(cookie.as_bytes()))
 }
 
-/// `on` or `off`.
+/// Returns true for the word `on`, and false for `off`.
 pub(crate) fn switch_named(word: &str) -> Result<bool, Reason>
     ensures { result ≡ switch_named word.now }
 {
@@ -164,7 +164,7 @@ fn profile_named(word: &str) -> Result<Profile, Reason>
     }
 }
 
-/// Returns the profile that a word names, `1` or `2`, or [`Profile::Two`] if there is no word.
+/// Returns the profile that `word` names, `1` or `2`, or [`Profile::Two`] if there is no word.
 pub(crate) fn profile_in(word: Option<&str>) -> Result<Profile, Reason>
     ensures { result ≡ profile_in (option_copied word.entry) }
 {
@@ -174,8 +174,7 @@ pub(crate) fn profile_in(word: Option<&str>) -> Result<Profile, Reason>
     }
 }
 
-/// Checks that a text is a term. A name that is bound to nothing is told before any other fault of the
-/// text.
+/// Checks that `text` is a term. Reports an unbound name before any other fault of the text.
 pub(crate) fn term_read(names: &Names, text: &str) -> Result<(), Reason>
     ensures { (look : Look) → Knows names.now look → result ≡ term_read look text.now }
 {
@@ -183,5 +182,28 @@ pub(crate) fn term_read(names: &Names, text: &str) -> Result<(), Reason>
         Ok(()) => Ok(()),
         Err(_) if has_unbound(names, text) => Err(Reason::UnknownName),
         Err(fault) => Err(Reason::of(fault)),
+    }
+}
+
+// Returns true if `text` begins as an atom does, and no other term.
+fn begins_atom(text: &[u8]) -> bool
+    ensures { result ≡ begins_atom text.now }
+{
+    match text {
+        [first, ..] => *first == b'\'' || first.is_ascii_lowercase(),
+        [] => false,
+    }
+}
+
+/// Checks that `text` is an atom, bare or between quotes. Any other text is [`Reason::BadTerm`].
+pub(crate) fn atom_read(names: &Names, text: &str) -> Result<(), Reason>
+    ensures { (look : Look) → Knows names.now look → result ≡ atom_read look text.now }
+{
+    if !begins_atom(text.as_bytes()) {
+        return Err(Reason::BadTerm);
+    }
+    match check_term(names, text) {
+        Ok(()) => Ok(()),
+        Err(_) => Err(Reason::BadTerm),
     }
 }

@@ -1,4 +1,4 @@
-//! Lines are read.
+//! The reading of lines.
 ghost use Rattle.std.specs.Prelude.{◌≡◌};
 ghost use Rattle.script_lines.specs.Lines.{Reads, ReadsSome, line_says, node_in, nodes_in, placed, process_and_term_in, process_in, processes_and_term_in, processes_in, verb_in, verb_says, words_say};
 ghost use Rattle.script_lines.specs.Words.{Answers, behind_word, word_of};
@@ -8,7 +8,7 @@ ghost use Rattle.script_terms.specs.Binding.{Look, Knows};
 use crate::command::Verb;
 use crate::line::Line;
 use crate::naming::{
-    demonitor_named, formed, monitor_named, node_formed, nodes_formed, process_named,
+    atom_read, demonitor_named, formed, monitor_named, node_formed, nodes_formed, process_named,
     processes_named, profile_in, spawn_formed, switch_named, term_read,
 };
 use crate::reason::Reason;
@@ -23,7 +23,7 @@ use script_terms::Names;
 /// The most bytes of a line, without its line break.
 pub const LINE_LIMIT: usize = 65_536;
 
-/// Which of the lines may still come that stand at the beginning alone.
+/// The kinds of line that stand only at the beginning of a script: true for each that may still come.
 #[derive(Clone, Copy, Debug, PartialEq, Eq)]
 pub struct MayCome {
     /// A `pair` line, which is the first of all.
@@ -42,7 +42,7 @@ fn placed(is_placed: bool) -> Result<(), Reason>
     }
 }
 
-// The words that follow, of lines that begin alike.
+// The words behind a verb, in forms that several verbs share.
 
 fn nodes_in(rest: &str) -> Result<(&str, &str), Reason>
     ensures { Answers (λ nodes. (nodes.0.now, nodes.1.now)) result (nodes_in rest.now) }
@@ -95,7 +95,7 @@ fn process_and_term_in<'a>(names: &'a Names, rest: &'a str) -> Result<(&'a Pid, 
     Ok((process, term))
 }
 
-// The words that follow, of lines of their own kind.
+// The words behind a verb, in forms of one verb alone.
 
 fn node_line(may_come: MayCome, rest: &str) -> Result<Line<'_>, Reason>
     ensures { (look : Look) → Reads (verb_says may_come look verb.Node rest.now) result }
@@ -156,7 +156,25 @@ fn trap_line<'a>(names: &'a Names, rest: &str) -> Result<Line<'a>, Reason>
     Ok(Line::Trap { process, on })
 }
 
-// The words that follow a verb.
+fn register_line<'a>(names: &'a Names, rest: &'a str) -> Result<Line<'a>, Reason>
+    ensures { (may_come : MayCome) (look : Look) → Knows names.now look → Reads (verb_says may_come look verb.Register rest.now) result }
+{
+    let (process, name) = word_and_text(rest)?;
+    let process = process_named(names, process)?;
+    atom_read(names, name)?;
+    Ok(Line::Register { process, name })
+}
+
+fn whereis_line<'a>(names: &Names, rest: &'a str) -> Result<Line<'a>, Reason>
+    ensures { (may_come : MayCome) (look : Look) → Knows names.now look → Reads (verb_says may_come look verb.WhereIs rest.now) result }
+{
+    let (node, name) = word_and_text(rest)?;
+    formed(NodeName::fits(node))?;
+    atom_read(names, name)?;
+    Ok(Line::WhereIs { node, name })
+}
+
+// Reads the words behind `verb`.
 fn read_verb<'a>(
     may_come: MayCome,
     names: &'a Names,
@@ -172,6 +190,8 @@ fn read_verb<'a>(
         Verb::Monitor => monitor_line(names, rest),
         Verb::Demonitor => demonitor_line(names, rest),
         Verb::Trap => trap_line(names, rest),
+        Verb::Register => register_line(names, rest),
+        Verb::WhereIs => whereis_line(names, rest),
         Verb::Send => processes_and_term_in(names, rest).map(|(from, to, term)| Line::Send {
             from,
             to,
@@ -192,6 +212,7 @@ fn read_verb<'a>(
         Verb::Receive => process_in(names, rest).map(|process| Line::Receive { process }),
         Verb::Links => process_in(names, rest).map(|process| Line::Links { process }),
         Verb::Alive => process_in(names, rest).map(|process| Line::Alive { process }),
+        Verb::Unregister => process_in(names, rest).map(|process| Line::Unregister { process }),
         Verb::Dial => nodes_in(rest).map(|(node, peer)| Line::Dial { node, peer }),
         Verb::Route => nodes_in(rest).map(|(node, peer)| Line::Route { node, peer }),
         Verb::Lose => nodes_in(rest).map(|(node, peer)| Line::Lose { node, peer }),
@@ -206,7 +227,7 @@ fn read_verb<'a>(
     }
 }
 
-// The words of a line that is short, and text.
+// Reads a line that is short enough, and text.
 fn read_words<'a>(
     may_come: MayCome,
     names: &'a Names,
@@ -225,7 +246,8 @@ fn read_words<'a>(
     Ok(Some(line))
 }
 
-/// The command whose word a line begins with, of a line that is short enough, and text. Takes no memory.
+/// Returns the verb that `line` begins with. [`None`] if it begins with no verb, is too long or isn't
+/// UTF-8. Never allocates.
 pub fn verb_in(line: &[u8]) -> Option<Verb>
     ensures { result ≡ verb_in line.now }
 {
@@ -238,11 +260,10 @@ pub fn verb_in(line: &[u8]) -> Option<Verb>
     }
 }
 
-/// Returns the meaning of a line, or [`None`] if the line is to be passed over. None where it is to be
-/// passed over. It takes no memory.
+/// Returns the meaning of `line`, or [`None`] if it is a comment or has no words. Never allocates.
 ///
 /// # Errors
-/// The first reason that fits, where the line is a bad one.
+/// The first [`Reason`] that fits, if the line is a bad one.
 pub fn read_line<'a>(
     may_come: MayCome,
     names: &'a Names,

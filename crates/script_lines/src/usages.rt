@@ -2,9 +2,9 @@
 use std::alloc::{AllocError, Global};
 use strsim::levenshtein;
 
-/// Each command with its words: in capitals what is written out, in brackets what may be left out, else a
-/// name.
-const USAGES: [&str; 26] = [
+/// Each command with its words. Capitals stand for a text, brackets for an optional word, and other words
+/// for a name.
+const USAGES: [&str; 29] = [
     "node NAME COOKIE [PROFILE]",
     "pair",
     "spawn NODE name",
@@ -19,6 +19,9 @@ const USAGES: [&str; 26] = [
     "receive p",
     "links p",
     "alive p",
+    "register p ATOM",
+    "unregister p",
+    "whereis NODE ATOM",
     "ends p q",
     "dial NODE PEER",
     "route NODE PEER",
@@ -39,12 +42,12 @@ const MOST_EDITS: usize = 2;
 /// The most bytes of a word that is near to a command.
 const LONGEST: usize = 16;
 
-/// The word that a command begins with.
+/// Returns the word that a command begins with.
 pub(crate) fn verb_of(usage: &str) -> &str {
     usage.split(' ').next().unwrap_or(usage)
 }
 
-/// The command that begins with this word.
+/// Returns the command that begins with `verb`, if there is one.
 pub(crate) fn usage_of(verb: &str) -> Option<&'static str> {
     for usage in USAGES {
         if verb_of(usage) == verb {
@@ -54,7 +57,7 @@ pub(crate) fn usage_of(verb: &str) -> Option<&'static str> {
     None
 }
 
-/// The command whose first word is nearest to this word, if one is near.
+/// Returns the first word of a command that is nearest to `word`, if one is near.
 pub(crate) fn nearest(alloc: Global, word: &str) -> Result<Option<&'static str>, AllocError> {
     if word.len() > LONGEST {
         return Ok(None);

@@ -4,13 +4,15 @@ use Rattle.std.proofs.Common.{nat_lt, Option, None, Some, Result, Ok, Err, refl,
 use Rattle.std.specs.Str.{is_utf8}
 use Rattle.erl_term.specs.Reading.{◌>>=◌}
 use Rattle.erl_handshake.specs.declared.profile.Profile.{Profile}
+use Rattle.erl_names.specs.Name.{is_node_name}
 use Rattle.script_lines.specs.Commands.{verb_named}
 use Rattle.script_lines.specs.Lines.{found, line_says, node_in, nodes_in, placed, process_in, process_and_term_in}
 use Rattle.script_lines.specs.Lines.{processes_in, processes_and_term_in, verb_says, words_say}
-use Rattle.script_lines.specs.Naming.{demonitor_named, monitor_named, node_formed, process_named, profile_in, spawn_formed, switch_named}
+use Rattle.script_lines.specs.Naming.{atom_read, demonitor_named, formed, monitor_named, node_formed, process_named, profile_in}
+use Rattle.script_lines.specs.Naming.{spawn_formed, switch_named}
 use Rattle.script_lines.specs.Said.{Said}
 use Rattle.script_lines.specs.Said as says
-use Rattle.script_lines.specs.Words.{behind_word, no_words, three_words, two_words, two_words_or_three, word_of}
+use Rattle.script_lines.specs.Words.{behind_word, no_words, three_words, two_words, two_words_or_three, word_and_text, word_of}
 use Rattle.script_lines.specs.declared.command.Verb.{Verb}
 use Rattle.script_lines.specs.declared.command.Verb.TheVariants as verb
 use Rattle.script_lines.specs.declared.reading.MayCome.{MayCome}
@@ -50,6 +52,11 @@ late may look verb.Ends rest e = bind (processes_in look rest) _ (λ pids. refl)
 late may look verb.Receive rest e = bind (process_in look rest) _ (λ p. refl)
 late may look verb.Links rest e = bind (process_in look rest) _ (λ p. refl)
 late may look verb.Alive rest e = bind (process_in look rest) _ (λ p. refl)
+late may look verb.Unregister rest e = bind (process_in look rest) _ (λ p. refl)
+late may look verb.Register rest e =
+    bind (word_and_text rest) _ (λ words. bind (process_named look words.0) _ (λ p. bind (atom_read look words.1) _ (λ _. refl)))
+late may look verb.WhereIs rest e =
+    bind (word_and_text rest) _ (λ words. bind (formed (is_node_name words.0)) _ (λ _. bind (atom_read look words.1) _ (λ _. refl)))
 late may look verb.Stop rest e = bind (node_in rest) _ (λ node. refl)
 late may look verb.Start rest e = bind (node_in rest) _ (λ node. refl)
 late may look verb.Local rest e = bind (node_in rest) _ (λ node. refl)

@@ -10,7 +10,7 @@ use Rattle.dist_model.specs.World.{Call, Dial, Local, Start, Stop, Sweep, World}
 use Rattle.dist_model.specs.declared.command.Command.{Command}
 use Rattle.dist_model.specs.declared.report.Answer.{Answer}
 use Rattle.erl_handshake.specs.declared.profile.Profile.{Profile}
-use Rattle.erl_term.specs.Data.{Data, list, no_items}
+use Rattle.erl_term.specs.Data.{Data, atom, list, no_items}
 use Rattle.erl_term.specs.declared.term.Pid.{Pid}
 use Rattle.script_lines.specs.Lines.{line_says}
 use Rattle.script_lines.specs.Said.{Said}
@@ -32,15 +32,15 @@ use Rattle.script_session.specs.Pairs.{setup_of}
 
 pub record State : Type 0 where
   pub stage : Stage
-  -- what the names of the script stand for
+  -- the meaning of the script's names
   pub names : Look
-  -- whether a command has come that no line for a node may follow
+  -- true once a command has come that no line for a node may follow
   pub started : Bool
 
 abbrev pub fresh_state : (trace : Bool) → (word : ℕ) → State
 fresh_state trace word = record { stage = record { world = opening []; word = word; trace = trace }; names = λ name. None; started = false }
 
--- ---- what a command makes of the stage, and what it prints
+-- ---- the effect of a command on the stage, and its output
 
 -- a line's text is a term: else it is a bad line
 abbrev pub term_in : Result Data TermFault → Data
@@ -50,7 +50,15 @@ term_in (Err e) = list no_items
 abbrev pub read : Look → List ℕ → Data
 read look text = term_in (term_of look text)
 
--- a node more, in its first incarnation
+-- the text of an ATOM is an atom: else it is a bad line
+abbrev pub atom_in : Data → List ℕ
+atom_in (atom a) = a
+atom_in _ = []
+
+abbrev pub read_atom : Look → List ℕ → List ℕ
+read_atom look text = atom_in (read look text)
+
+-- the world with one more node, in its first incarnation
 abbrev pub joined : World → Name → (cookie : List ℕ) → Profile → World
 joined world name cookie profile = record {
   names = world.names ++ name ∷ [];
@@ -65,7 +73,7 @@ joins name cookie profile it = record {
   made = Made.Nothing;
 }
 
--- ---- what a line asks a node for, which is that of the first process
+-- ---- the command of a line, and its node: that of the first process, or the one that the line names
 
 -- a process acts on another
 abbrev pub asks_of_two : Look → Said → Option (Name × Command)
@@ -76,7 +84,7 @@ asks_of_two look (says.Monitor owner target name) = Some (owner.node, Command.Mo
 asks_of_two look (says.Exit from to term) = Some (from.node, Command.ExitTo from to (read look term))
 asks_of_two look _ = None
 
--- it acts by itself, or is looked at
+-- a process acts by itself, or a caller looks at it
 abbrev pub asks_of_one : Look → Said → Option (Name × Command)
 asks_of_one look (says.Demonitor owner reference) = Some (owner.node, Command.Demonitor owner reference)
 asks_of_one look (says.Trap process on) = Some (process.node, Command.Trap process on)
@@ -86,12 +94,19 @@ asks_of_one look (says.Links process) = Some (process.node, Command.LinksOf proc
 asks_of_one look (says.Alive process) = Some (process.node, Command.IsAlive process)
 asks_of_one look _ = None
 
+-- a process takes a registered name or gives it up, or a caller asks for the process that has a name
+abbrev pub asks_of_names : Look → Said → Option (Name × Command)
+asks_of_names look (says.Register process name) = Some (process.node, Command.Register process (read_atom look name))
+asks_of_names look (says.Unregister process) = Some (process.node, Command.Unregister process)
+asks_of_names look (says.WhereIs node name) = Some (node, Command.WhereIs (read_atom look name))
+asks_of_names look _ = None
+
 abbrev pub asks : Look → Said → Option (Name × Command)
-asks look said = option_or (asks_of_two look said) (asks_of_one look said)
+asks look said = option_or (asks_of_two look said) (option_or (asks_of_one look said) (asks_of_names look said))
 
--- ---- what the other lines do
+-- ---- the effects of the other lines
 
--- what brings a pair about isn't printed
+-- a pair prints nothing
 abbrev pub pairs : Stage → Scene
 pairs it = record { stage = pair_stage it.word; text = []; made = Made.Pair }
 
@@ -126,7 +141,7 @@ plays_as (Some asked) said it = happens (Call asked.0 asked.1) it
 abbrev pub plays : Look → Said → Stage → Scene
 plays look said it = plays_as (asks look said) said it
 
--- ---- what it binds names to
+-- ---- the names that a line binds
 
 -- the name that a line gives
 abbrev pub new_name : Said → List ℕ
@@ -145,7 +160,7 @@ starts _ = true
 
 -- ---- a line
 
--- the state after it, and what it prints
+-- the state after a line, and its output
 pub record Step : Type 0 where
   pub state : State
   pub text : List ℕ
@@ -156,7 +171,7 @@ does said state = let scene = plays state.names said state.stage in record {
   text = scene.text;
 }
 
--- a line for a node whose name is taken is a bad line too
+-- a line for a node of a name that another has is a bad line too
 abbrev pub is_taken : Said → List Name → Bool
 is_taken (says.Node name cookie profile) names = has_name name names
 is_taken _ names = false
@@ -166,7 +181,7 @@ says_does state (Ok None) = Ok (record { state = state; text = [] })
 says_does state (Ok (Some said)) = if is_taken said state.stage.world.names then Err Reason.NameTaken else Ok (does said state)
 says_does state (Err reason) = Err reason
 
--- the lines for nodes come first, and are at most 64. A pair is made before all else
+-- the lines for nodes come first, and are at most 64. The line for a pair is the first of all
 abbrev pub may_come : State → MayCome
 may_come state = record {
   pair = not state.started && length state.stage.world.names == 0;

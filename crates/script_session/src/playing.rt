@@ -3,7 +3,7 @@ ghost use Rattle.std.specs.Prelude.{◌≡◌, false, IfOk, OnOk, string_bytes};
 ghost use Rattle.dist_model.specs.Dialing.{has_name};
 ghost use Rattle.dist_model.specs.World.{Dial};
 ghost use Rattle.script_lines.specs.Said.{said};
-ghost use Rattle.script_session.specs.Session.{asks, asks_of_one, asks_of_two, holds, is_taken, joins, moves, new_name, plays, read, shows, starts};
+ghost use Rattle.script_session.specs.Session.{asks, asks_of_names, asks_of_one, asks_of_two, holds, is_taken, joins, moves, new_name, plays, read, read_atom, shows, starts};
 ghost use Rattle.script_session.specs.Stage.{Stage as TheStage, happens};
 ghost use Rattle.script_session.specs.Stands.{IsOpening, IsStage, Plays};
 ghost use Rattle.script_session.specs.declared.made.Made.{Made as TheMade};
@@ -17,7 +17,7 @@ use crate::showing::put_world;
 use crate::stage::Stage;
 use dist_model::{Answer, Command};
 use erl_handshake::Profile;
-use erl_term::{Atom, Payload, Pid};
+use erl_term::{Atom, Payload, Pid, Term};
 use script_lines::Line;
 use script_terms::{Names, read_term};
 use script_texts::{put_answer, put_ends};
@@ -29,6 +29,16 @@ fn term(alloc: Global, names: &Names, text: &str) -> Result<Payload, AllocError>
     ensures { (look : Look) → Knows names.now look → IfOk result (λ t. t ≡ read look text.now) }
 {
     read_term(alloc, names, text).map_err(|_| AllocError)
+}
+
+// Returns the atom of a line, which is known to be one.
+fn atom(alloc: Global, names: &Names, text: &str) -> Result<Atom, AllocError>
+    ensures { (look : Look) → Knows names.now look → IfOk result (λ name. name ≡ read_atom look text.now) }
+{
+    match term(alloc, names, text)?.into_term() {
+        Term::Atom(name) => Ok(name),
+        _ => Err(AllocError),
+    }
 }
 
 // Returns copies of two processes, and of the name of the first one's node.
@@ -45,7 +55,7 @@ fn at_one(process: &Pid) -> Result<(Atom, Pid), AllocError>
     Ok((process.node.clone()?, process.clone()?))
 }
 
-/// Returns the name that a line gives to what it makes, or the empty string.
+/// Returns the name that a line gives to a process or a monitor, or the empty string.
 ///
 /// # Errors
 /// [`AllocError`] if out of memory.
@@ -68,7 +78,7 @@ pub(crate) fn is_taken(stage: &Stage, line: Line) -> bool
     }
 }
 
-/// Returns true if no line for a node may come behind this line.
+/// Returns true if no line for a node may come behind `line`.
 pub fn starts(line: Line) -> bool
     ensures { result ≡ starts (said line.entry) }
 {
@@ -79,7 +89,7 @@ pub fn starts(line: Line) -> bool
 }
 
 impl Stage {
-    // Lets something happen at the node that a word names.
+    // Lets `event` happen at the node that a word names.
     fn at(
         &mut self,
         alloc: Global,
@@ -152,7 +162,8 @@ impl Stage {
     }
 }
 
-// What a line asks a node for, in which a process acts on another.
+// Returns the command of a line by which a process acts on another, and the name of its node. [`None`] for
+// any other line.
 fn asked_of_two(
     alloc: Global,
     names: &Names,
@@ -195,7 +206,8 @@ fn asked_of_two(
     }
 }
 
-// What a line asks a node for, in which a process acts by itself, or is looked at.
+// Returns the command of a line by which a process acts by itself, or a caller looks at it, and the name of
+// its node. [`None`] for any other line.
 fn asked_of_one(
     alloc: Global,
     names: &Names,
@@ -237,11 +249,42 @@ fn asked_of_one(
     }
 }
 
-/// Returns the command that a line asks a node for, if it does, and the name of that node: it is the
-/// first process's.
+// Returns the command of a line about registered names, and the name of its node. [`None`] for any other
+// line.
+fn asked_of_names(
+    alloc: Global,
+    names: &Names,
+    line: Line,
+) -> Result<Option<(Atom, Command)>, AllocError>
+    ensures { (look : Look) → Knows names.now look → IfOk result (λ asked. asked ≡ asks_of_names look (said line.entry)) }
+{
+    match line {
+        Line::Register {
+            process,
+            name: text,
+        } => {
+            let name = atom(alloc, names, text)?;
+            let (node, process) = at_one(process)?;
+            Ok(Some((node, Command::Register { process, name })))
+        }
+        Line::Unregister { process } => {
+            let (node, process) = at_one(process)?;
+            Ok(Some((node, Command::Unregister { process })))
+        }
+        Line::WhereIs { node, name: text } => {
+            let name = atom(alloc, names, text)?;
+            let node = node_name(alloc, node)?.atom().clone()?;
+            Ok(Some((node, Command::WhereIs { name })))
+        }
+        _ => Ok(None),
+    }
+}
+
+/// Returns the command that a line asks a node for, if it does, and the name of that node. The node is that
+/// of the first process, or the one that `whereis` names.
 ///
 /// # Errors
-/// Where memory is wanting.
+/// [`AllocError`] if out of memory.
 pub fn asked(
     alloc: Global,
     names: &Names,
@@ -249,14 +292,17 @@ pub fn asked(
 ) -> Result<Option<(Atom, Command)>, AllocError>
     ensures { (look : Look) → Knows names.now look → IfOk result (λ asked. asked ≡ asks look (said line.entry)) }
 {
-    match asked_of_two(alloc, names, line)? {
-        Some(asked) => Ok(Some(asked)),
-        None => asked_of_one(alloc, names, line),
+    if let Some(asked) = asked_of_two(alloc, names, line)? {
+        return Ok(Some(asked));
     }
+    if let Some(asked) = asked_of_one(alloc, names, line)? {
+        return Ok(Some(asked));
+    }
+    asked_of_names(alloc, names, line)
 }
 
 impl Stage {
-    // A line that asks nothing of a process's node.
+    // Carries out a line that asks nothing of a process's node.
     fn moves(&mut self, alloc: Global, line: Line, out: &mut String) -> Result<Made, AllocError>
         requires { is_taken (said line) (names_of self.old.world.nodes.items) ≡ false }
         ensures { (it : TheStage) → IsStage self.old it → (starts (said line.entry) ≡ false → IsOpening it.world) →
@@ -286,7 +332,7 @@ impl Stage {
             Line::Sweep { node } => self.at(alloc, node, NodeEvent::Sweep, out),
             Line::Settle => self.settle(alloc, out).map(|()| Made::Nothing),
             Line::Show => self.show(out).map(|()| Made::Nothing),
-            // what asks a node is carried out there, and nothing is left to do
+            // `play` carries these out at their node, and leaves nothing to do here
             Line::Send { .. } => Ok(Made::Nothing),
             Line::Link { .. } => Ok(Made::Nothing),
             Line::Unlink { .. } => Ok(Made::Nothing),
@@ -298,13 +344,16 @@ impl Stage {
             Line::Receive { .. } => Ok(Made::Nothing),
             Line::Links { .. } => Ok(Made::Nothing),
             Line::Alive { .. } => Ok(Made::Nothing),
+            Line::Register { .. } => Ok(Made::Nothing),
+            Line::Unregister { .. } => Ok(Made::Nothing),
+            Line::WhereIs { .. } => Ok(Made::Nothing),
         }
     }
 
-    /// A line's command.
+    /// Carries out a line's command.
     ///
     /// # Errors
-    /// Where memory is wanting.
+    /// [`AllocError`] if out of memory.
     pub(crate) fn play(
         &mut self,
         alloc: Global,

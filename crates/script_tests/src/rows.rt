@@ -89,7 +89,13 @@ const CUT: (&str, &str) = (
     "took link\ndone\nrefused 18 NotLive\nswept link\nrefused 19 NothingThere\nsettled\nends none none\nnot alive\n",
 );
 
-const ROWS: [(&str, &str); 12] = [
+/// Registered names: of two nodes, given up, and free again once a process ends or a node stops.
+const NAMES: (&str, &str) = (
+    "node a@h c\nnode b@h c\nspawn a@h p\nspawn a@h q\nspawn b@h r\nregister p srv\nregister r srv\nregister p srv\nregister q srv\nregister p x\nregister q undefined\nwhereis a@h srv\nwhereis b@h srv\nwhereis b@h 'a b'\nwhereis c@h srv\nunregister p\nunregister p\nregister q 'a b'\nwhereis a@h 'a b'\nstop b@h\nwhereis b@h srv\nregister r x\nunregister r\nstart b@h\nwhereis b@h srv\nregister r x\nunregister r\ndie q boom\nwhereis a@h 'a b'\n",
+    "up a@h 1\nup b@h 1\n<a@h.1.0.1>\n<a@h.2.0.1>\n<b@h.1.0.1>\ndone\ndone\nrefused 25 NameTaken\nrefused 25 NameTaken\nrefused 26 HasName\nrefused 1 BadName\n<a@h.1.0.1>\n<b@h.1.0.1>\nnone\nrefused 19 NothingThere\ndone\nrefused 27 NoName\ndone\n<a@h.2.0.1>\nstopped b@h\nrefused 2 NodeDown\nrefused 2 NodeDown\nrefused 2 NodeDown\nup b@h 2\nnone\nrefused 3 NoSuchProcess\nrefused 3 NoSuchProcess\ndone\nnone\n",
+);
+
+const ROWS: [(&str, &str); 13] = [
     TO_THE_DEAD,
     LOST,
     CROSSED,
@@ -102,6 +108,7 @@ const ROWS: [(&str, &str); 12] = [
     REFUSED,
     TERMS,
     CUT,
+    NAMES,
 ];
 
 #[test]
@@ -165,7 +172,7 @@ fn many_nodes(rt: HostRuntime) -> Result<(), Fail> {
 }
 
 /// Bad lines of scripts of nodes, and what is said of them.
-const ADVICE: [(&str, &str); 17] = [
+const ADVICE: [(&str, &str); 21] = [
     ("lnk p q", "'lnk'; did you mean 'link'?"),
     ("pair\r", "'pair\\r'; lines end with a line feed alone"),
     (
@@ -210,6 +217,19 @@ const ADVICE: [(&str, &str); 17] = [
     (
         "pair\nsend p q {'$none',$nope}\n",
         "'nope' behind a '$' is no name of a process or a monitor; 'spawn NODE name' names a process, and 'monitor p q name' a monitor",
+    ),
+    ("whereas", "'whereas'; did you mean 'whereis'?"),
+    (
+        "register p srv",
+        "'p'; 'spawn NODE name' names a process, and 'monitor p q name' a monitor",
+    ),
+    (
+        "pair\nregister p Srv\n",
+        "an atom is a lower-case letter, then letters, digits, '_' and '@', or text in quotes, as 'two words', of 255 characters at most",
+    ),
+    (
+        "whereis a srv",
+        "'a' is no name of a node: that is two words joined by '@', of letters, digits, '_' and '-', of 64 characters at most",
     ),
     (
         "\tpair\n",

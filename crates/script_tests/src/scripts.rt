@@ -493,13 +493,23 @@ fn command_lines(rt: HostRuntime) -> Result<(), Fail> {
 }
 
 /// Scripts, the lines of their events in JSON, and how they end.
-const TOLD: [(&str, &str, Outcome); 3] = [
+const TOLD: [(&str, &str, Outcome); 4] = [
     ("", "", Outcome::Ran),
     (
         "node a@h c\nspawn a@h p\nalive p\ndeliver a@h a@h\nshow\nstart a@h",
         r#"{"answer":{"kind":"pid","process":"<a@h.1.0.1>"},"effects":[],"event":{"kind":"spawn"},"node":"a@h"}
 {"answer":{"alive":true,"kind":"alive"},"effects":[],"event":{"kind":"alive","process":"<a@h.1.0.1>"},"node":"a@h"}
 {"answer":{"kind":"refused","name":"NodeUp","number":23},"effects":[],"event":{"kind":"start"},"node":"a@h"}
+"#,
+        Outcome::Ran,
+    ),
+    (
+        "node a@h c\nspawn a@h p\nregister p 'two words'\nwhereis a@h 'two words'\nunregister p\nwhereis a@h x\n",
+        r#"{"answer":{"kind":"pid","process":"<a@h.1.0.1>"},"effects":[],"event":{"kind":"spawn"},"node":"a@h"}
+{"answer":{"kind":"done"},"effects":[],"event":{"kind":"register","name":"'two words'","process":"<a@h.1.0.1>"},"node":"a@h"}
+{"answer":{"holder":"<a@h.1.0.1>","kind":"holder"},"effects":[],"event":{"kind":"whereis","name":"'two words'"},"node":"a@h"}
+{"answer":{"kind":"done"},"effects":[],"event":{"kind":"unregister","process":"<a@h.1.0.1>"},"node":"a@h"}
+{"answer":{"holder":null,"kind":"holder"},"effects":[],"event":{"kind":"whereis","name":"x"},"node":"a@h"}
 "#,
         Outcome::Ran,
     ),
@@ -531,7 +541,7 @@ fn told(rt: HostRuntime) {
 }
 
 /// Scripts, what stands in their drawings, and how they end.
-const DRAWN: [(&str, &[&str], Outcome); 6] = [
+const DRAWN: [(&str, &[&str], Outcome); 7] = [
     ("", &["A run of Erlang nodes"], Outcome::Ran),
     (
         "node a@h c\nspawn a@h p\nalive p\nstop a@h\nspawn a@h q\nshow\n",
@@ -562,6 +572,16 @@ const DRAWN: [(&str, &[&str], Outcome); 6] = [
             ">lose a@h b@h<",
             ">cut a@h b@h<",
             ">refused 19 NothingThere<",
+        ],
+        Outcome::Ran,
+    ),
+    (
+        "node a@h c\nspawn a@h p\nregister p srv\nwhereis a@h srv\nwhereis a@h x\nregister p x\n",
+        &[
+            ">register p srv<",
+            ">&lt;a@h.1.0.1&gt;<",
+            ">none<",
+            ">refused 26 HasName<",
         ],
         Outcome::Ran,
     ),

@@ -1,4 +1,4 @@
--- What is printed of an event, each text with its line break.
+-- The printed texts of events. Each line has its line break.
 use Rattle.std.specs.Prelude.{ℕ, Bool, true, false, List, ◌++◌, Option, None, Some, codes}
 use Rattle.std.specs.Fmt.{decimal}
 use Rattle.std.specs.List.{flat_map}
@@ -17,11 +17,11 @@ use Rattle.link_core.specs.declared.end.End.TheVariants as end
 use Rattle.script_terms.specs.Printing.{pid_text, reference_text, term_text}
 use Rattle.script_texts.specs.Words.{fault_name, kind_name, swept_name}
 
--- what a node sends to a peer, whole and in hex
+-- the bytes that a node sends to a peer, all of them in hex
 abbrev pub sent_text : (node peer : Name) → (bytes : List ℕ) → List ℕ
 sent_text node peer bytes = codes "sent " ++ node ++ codes " " ++ peer ++ codes " " ++ encode_upper bytes ++ codes "\n"
 
--- ---- what it comes to
+-- ---- outcomes
 
 abbrev pub done_text : List ℕ
 done_text = codes "done\n"
@@ -49,7 +49,12 @@ abbrev pub alive_text : Bool → List ℕ
 alive_text true = codes "alive\n"
 alive_text false = codes "not alive\n"
 
--- of a node of that name
+-- the process that has a name, or `none`
+abbrev pub holder_text : Option Pid → List ℕ
+holder_text None = codes "none\n"
+holder_text (Some p) = pid_text p ++ codes "\n"
+
+-- the answer of the node of that name
 abbrev pub answer_text : Name → Answer → List ℕ
 answer_text node answer.Done = done_text
 answer_text node (answer.Pid p) = pid_text p ++ codes "\n"
@@ -57,6 +62,7 @@ answer_text node (answer.Reference r) = reference_text r ++ codes "\n"
 answer_text node (answer.Message message) = message_text message
 answer_text node (answer.Links links) = codes "links" ++ flat_map link_text links ++ codes "\n"
 answer_text node (answer.Alive living) = alive_text living
+answer_text node (answer.Holder holder) = holder_text holder
 answer_text node (answer.Trunk trunk) = codes "trunk " ++ trunk_text trunk ++ codes "\n"
 answer_text node (answer.Took kind) = codes "took " ++ kind_name kind ++ codes "\n"
 answer_text node (answer.Broken fault) = codes "broken " ++ decimal (fault_number fault) ++ codes " " ++ fault_name fault ++ codes "\n"
@@ -66,20 +72,20 @@ answer_text node (answer.Started creation) = codes "up " ++ node ++ codes " " ++
 
 -- ---- other commands
 
--- how two processes hold their links to one another
+-- both ends of the link between two processes
 abbrev pub ends_text : End → End → List ℕ
 ends_text first second = codes "ends " ++ end_text first ++ codes " " ++ end_text second ++ codes "\n"
 
--- the connection that is up
+-- the connection that is up, or `none`
 abbrev pub route_text : Option TrunkId → List ℕ
 route_text None = codes "none\n"
 route_text (Some trunk) = codes "up " ++ trunk_text trunk ++ codes "\n"
 
--- whether no event is possible any more
+-- `settled` if no event is possible any more, and `busy` otherwise
 abbrev pub settled_text : Bool → List ℕ
 settled_text true = codes "settled\n"
 settled_text false = codes "busy\n"
 
--- the books of all nodes were merged
+-- the text for the merged books of all nodes
 abbrev pub merged_text : List ℕ
 merged_text = codes "merged\n"

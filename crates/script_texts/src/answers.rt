@@ -1,8 +1,8 @@
-//! What an event comes to.
+//! The texts of an event's outcome.
 ghost use Rattle.std.specs.Prelude.{◌≡◌, ◌++◌, OnOk, Option, string_bytes};
 ghost use Rattle.std.specs.List.{flat_map};
 ghost use Rattle.std.specs.Option.{option_copied};
-ghost use Rattle.script_texts.specs.Texts.{alive_text, answer_text, done_text, end_text, ends_text, link_text, merged_text, message_text, refused_text, route_text, settled_text, trunk_text};
+ghost use Rattle.script_texts.specs.Texts.{alive_text, answer_text, done_text, end_text, ends_text, holder_text, link_text, merged_text, message_text, refused_text, route_text, settled_text, trunk_text};
 
 use crate::kinds::{fault_name, kind_name, swept_name};
 use dist_model::Answer;
@@ -12,17 +12,17 @@ use link_core::End;
 use script_terms::{put_pid, put_reference, put_term};
 use std::alloc::AllocError;
 
-/// A command was carried out.
+/// Appends the text of a command that was carried out.
 ///
 /// # Errors
-/// Where there is no memory for it, as of each call below.
+/// [`AllocError`] if out of memory, as of each call below.
 pub fn put_done(out: &mut String) -> Result<(), AllocError>
     ensures { OnOk result (string_bytes out.new ≡ string_bytes out.old ++ done_text) }
 {
     out.push_str("done\n")
 }
 
-/// A command was refused.
+/// Appends the text of a refusal: its number and its name.
 pub fn put_refused(out: &mut String, refusal: Refusal) -> Result<(), AllocError>
     ensures { OnOk result (string_bytes out.new ≡ string_bytes out.old ++ refused_text refusal) }
 {
@@ -30,7 +30,7 @@ pub fn put_refused(out: &mut String, refusal: Refusal) -> Result<(), AllocError>
     writeln!(out, "refused {number} {name}")
 }
 
-/// A connection: the name of the node that dialed it, and the count of its dials.
+/// Appends a connection: the name of the node that dialed it, and that node's count.
 pub fn put_trunk(out: &mut String, trunk: &TrunkId) -> Result<(), AllocError>
     ensures { OnOk result (string_bytes out.new ≡ string_bytes out.old ++ trunk_text trunk.now) }
 {
@@ -38,7 +38,7 @@ pub fn put_trunk(out: &mut String, trunk: &TrunkId) -> Result<(), AllocError>
     write!(out, "{dialer}/{count}")
 }
 
-/// The end of a link.
+/// Appends the end of a link.
 pub fn put_end(out: &mut String, end: End) -> Result<(), AllocError>
     ensures { OnOk result (string_bytes out.new ≡ string_bytes out.old ++ end_text end) }
 {
@@ -58,7 +58,7 @@ fn put_link(out: &mut String, partner: &Pid, end: End) -> Result<(), AllocError>
     put_end(out, end)
 }
 
-// The links of a process, without the line break.
+// Appends the links of a process, without the line break.
 fn put_links(out: &mut String, links: &[(Pid, End)]) -> Result<(), AllocError>
     ensures { OnOk result (string_bytes out.new ≡ string_bytes out.old ++ flat_map link_text links.now) }
 {
@@ -87,7 +87,20 @@ fn put_alive(out: &mut String, is_living: bool) -> Result<(), AllocError>
     out.push_str(if is_living { "alive\n" } else { "not alive\n" })
 }
 
-/// Appends the answer of a node of this name.
+// Appends the process that has a name, or `none`.
+fn put_holder(out: &mut String, holder: Option<&Pid>) -> Result<(), AllocError>
+    ensures { OnOk result (string_bytes out.new ≡ string_bytes out.old ++ holder_text (option_copied holder.entry)) }
+{
+    match holder {
+        Some(process) => {
+            put_pid(out, process)?;
+            out.push_str("\n")
+        }
+        None => out.push_str("none\n"),
+    }
+}
+
+/// Appends the answer of the node of the name `node`.
 pub fn put_answer(out: &mut String, node: &str, answer: &Answer) -> Result<(), AllocError>
     ensures { OnOk result (string_bytes out.new ≡ string_bytes out.old ++ answer_text node.now answer.now) }
 {
@@ -101,6 +114,7 @@ pub fn put_answer(out: &mut String, node: &str, answer: &Answer) -> Result<(), A
             put_links(out, &links.entries)?;
         }
         Answer::Alive(is_living) => return put_alive(out, *is_living),
+        Answer::Holder(holder) => return put_holder(out, holder.as_ref()),
         Answer::Trunk(trunk) => {
             out.push_str("trunk ")?;
             put_trunk(out, trunk)?;
@@ -123,7 +137,7 @@ pub fn put_answer(out: &mut String, node: &str, answer: &Answer) -> Result<(), A
     out.push_str("\n")
 }
 
-/// How two processes hold their links to one another.
+/// Appends both ends of the link between two processes.
 pub fn put_ends(out: &mut String, first: End, second: End) -> Result<(), AllocError>
     ensures { OnOk result (string_bytes out.new ≡ string_bytes out.old ++ ends_text first second) }
 {
@@ -134,7 +148,7 @@ pub fn put_ends(out: &mut String, first: End, second: End) -> Result<(), AllocEr
     out.push_str("\n")
 }
 
-/// The connection that is up to a peer, if there is one.
+/// Appends the connection that is up to a peer, or `none`.
 pub fn put_route(out: &mut String, route: Option<&TrunkId>) -> Result<(), AllocError>
     ensures { OnOk result (string_bytes out.new ≡ string_bytes out.old ++ route_text (option_copied route.entry)) }
 {
@@ -148,14 +162,14 @@ pub fn put_route(out: &mut String, route: Option<&TrunkId>) -> Result<(), AllocE
     }
 }
 
-/// Appends the text that tells if an event is still possible.
+/// Appends `settled` if no event is possible any more, and `busy` otherwise.
 pub fn put_settled(out: &mut String, is_settled: bool) -> Result<(), AllocError>
     ensures { OnOk result (string_bytes out.new ≡ string_bytes out.old ++ settled_text is_settled) }
 {
     out.push_str(if is_settled { "settled\n" } else { "busy\n" })
 }
 
-/// The books of all nodes were merged.
+/// Appends the text for the merged books of all nodes.
 pub fn put_merged(out: &mut String) -> Result<(), AllocError>
     ensures { OnOk result (string_bytes out.new ≡ string_bytes out.old ++ merged_text) }
 {

@@ -51,12 +51,12 @@ impl NodeThreads {
             Line::Start { node } => self.act(rt, node, Act::Start, out),
             Line::Settle => self.settle(rt, out).map(|()| Made::Nothing),
             Line::Show => self.show(rt, alloc, out).map(|()| Made::Nothing),
-            // these aren't there, as `read` says
+            // `read` refuses these lines
             Line::Pair => Ok(Made::Nothing),
             Line::Deliver { .. } => Ok(Made::Nothing),
             Line::Local { .. } => Ok(Made::Nothing),
             Line::Sweep { .. } => Ok(Made::Nothing),
-            // a command to a process is carried out at its node, and nothing is left to do
+            // `play` carries these out at their node, and leaves nothing to do here
             Line::Send { .. } => Ok(Made::Nothing),
             Line::Link { .. } => Ok(Made::Nothing),
             Line::Unlink { .. } => Ok(Made::Nothing),
@@ -68,6 +68,9 @@ impl NodeThreads {
             Line::Receive { .. } => Ok(Made::Nothing),
             Line::Links { .. } => Ok(Made::Nothing),
             Line::Alive { .. } => Ok(Made::Nothing),
+            Line::Register { .. } => Ok(Made::Nothing),
+            Line::Unregister { .. } => Ok(Made::Nothing),
+            Line::WhereIs { .. } => Ok(Made::Nothing),
         }
     }
 

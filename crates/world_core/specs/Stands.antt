@@ -1,6 +1,6 @@
 -- The world of the model that a world of code stands for.
 -- (Reference Manual, Distributed Erlang; ERTS User's Guide, Distribution Protocol.)
-use Rattle.std.specs.Prelude.{◌≡◌, ◌++◌, ℕ, Bool, true, List, [], ◌∷◌, map}
+use Rattle.std.specs.Prelude.{◌≡◌, ◌++◌, Bool, true, List, [], ◌∷◌, map}
 use Rattle.dist_model.specs.Items.{Item}
 use Rattle.dist_model.specs.Names.{Name}
 use Rattle.dist_model.specs.Runs.{Runs, opening}

@@ -116,6 +116,7 @@ pub fn told(answer: &Answer) -> Told {
         Answer::Message(_) => Told::Empty,
         Answer::Links(links) => Told::Links(links.entries.len()),
         Answer::Alive(_) => Told::Other,
+        Answer::Holder(_) => Told::Other,
         Answer::Trunk(trunk) => Told::Dialed(trunk.count),
         Answer::Took(kind) => Told::Took(*kind),
         Answer::Broken(fault) => Told::Broken(fault.number()),

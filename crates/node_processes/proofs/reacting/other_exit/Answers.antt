@@ -15,7 +15,10 @@ carry_out-requires-clause-fits c =
     let p = c.args.process.now in
     let q = c.args.sender.now in
     let x = c.args.reason in
-    let is : c.in_ok-reaction.reaction ≡ reaction (traps m p) (sent_exit p q x) = search rules in
+    let from : c.in_ok-clone.field-0 ≡ q = search rules in
+    let is : c.in_ok-reaction.reaction ≡ reaction (traps m p) (sent_exit p q x) = c.in_ok-reaction.ensures
+    ∙ (λ i.
+    reaction (traps m p) (record { sender = from i; reason = x; link = false; is_active = false; is_own = c.same_pid.ensures i })) in
     subst FitsWhereEnds (sym is) (sent_fits (traps m p) p q x c.requires.fits)
 
 pub returns-clause-carries : goal.returns-clause-carries

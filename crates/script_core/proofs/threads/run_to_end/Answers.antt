@@ -9,7 +9,7 @@ use Rattle.script_core.proofs.threads.run_to_end.Goals as goal
 pub returns-then-eq : goal.returns-then-eq
 returns-then-eq g c =
     let remaining = g.R.Read.remaining c.args.reader.now in
-    let session = c.into_session.result.session in
+    let session = c.into_session-session.result.session in
     let none = ap (λ xs. map (λ x. x.items) xs) c.new.ensures.lines in
     let kept = c.new-script.ensures.kept fresh_known (c.new.ensures.known, sym none) in
     let nothing = ap (λ it. map (λ x. x.items) it.lines.items) c.new-script.ensures.session ∙ none in
@@ -17,7 +17,7 @@ returns-then-eq g c =
     ends_merged c.args.options.now.trace session remaining (g.W.Write.contents c.read_all-outcome.new.writer)
     (g.W.Write.contents c.finish.new.writer) c.finish.result
     (for_known remaining (λ bytes. HasRun fresh_known bytes session) (λ bytes e.
-    subst (λ (it : ThreadedSession). HasRun fresh_known bytes it) (ap (λ it. it.session) (sym c.into_session.ensures))
+    subst (λ (it : ThreadedSession). HasRun fresh_known bytes it) (ap (λ it. it.session) (sym c.into_session-session.ensures))
     (subst (RunsScript fresh_known bytes c.read_all-outcome.new.script.session.session) ran
     (c.read_all-outcome.ensures fresh_known bytes (before_the_first c.new-script.result bytes remaining e kept nothing)))))
     c.finish.ensures

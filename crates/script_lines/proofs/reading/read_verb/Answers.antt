@@ -17,3 +17,9 @@ returns-in-Demonitor c = λ look knows. rw c.in-Demonitor.is (c.demonitor_line.e
 
 pub returns-in-Trap : goal.returns-in-Trap
 returns-in-Trap c = λ look knows. rw c.in-Trap.is (c.trap_line.ensures c.args.may_come look knows)
+
+pub returns-in-Register : goal.returns-in-Register
+returns-in-Register c = λ look knows. rw c.in-Register.is (c.register_line.ensures c.args.may_come look knows)
+
+pub returns-in-WhereIs : goal.returns-in-WhereIs
+returns-in-WhereIs c = λ look knows. rw c.in-WhereIs.is (c.whereis_line.ensures c.args.may_come look knows)

@@ -22,7 +22,7 @@ invariant_of-self c =
     let local =
     ap (λ xs. Rattle.std.proofs.Common.map own_item xs) c.keep.ensures
     ∙ map_popped own_item plan.pops old.local.items plan.local.items in
-    let is : seen_of c.draw.new.incarnation old.own c.dialed_after-self.result c.change_watches.new.watches
+    let is : seen_of c.draw.new.incarnation c.change_processes-answer.new.names old.own c.dialed_after-self.result c.change_watches.new.watches
     c.change_watchers.new.watchers c.change_sides.new.sides c.keep.new.list.items ≡ committed plan
     (seen old) = (λ i. record {
       mint = mint i;
@@ -31,6 +31,7 @@ invariant_of-self c =
       up = up i;
       dialed = c.dialed_after-self.ensures i;
       lives = lives i;
+      names = c.change_processes-answer.ensures.names i;
       ends = ends i;
       watches = c.change_watches.ensures i;
       registered = c.change_watchers.ensures i;

@@ -20,8 +20,8 @@ invariant_of-result c =
     let setup = c.args.setup in
     let own : Identity = record { name = c.in_ok-clone.field-0; creation = c.first.result; flags = c.flags.result; cookie = setup.cookie } in
     let mint = c.new.ensures.mint ∙ ap (nothing_drawn name) c.first-2.ensures in
-    let local = ap (map own_item) c.new-5.ensures.items in
-    let is : seen_of c.new.result own 0 c.new-2.result c.new-3.result c.new-4.result c.new-5.result.items ≡ new_node name setup =
+    let local = ap (map own_item) c.new-6.ensures.items in
+    let is : seen_of c.new.result c.new-2.result own 0 c.new-3.result c.new-4.result c.new-5.result c.new-6.result.items ≡ new_node name setup =
     (λ i. record {
       mint = mint i;
       cookie = setup.cookie;
@@ -29,10 +29,11 @@ invariant_of-result c =
       up = c.new.ensures.up i;
       dialed = 0;
       lives = c.new.ensures.lives i;
+      names = c.new-2.ensures i;
       ends = c.new.ensures.ends i;
-      watches = c.new-2.ensures i;
-      registered = c.new-3.ensures i;
-      sides = c.new-4.ensures i;
+      watches = c.new-3.ensures i;
+      registered = c.new-4.ensures i;
+      sides = c.new-5.ensures i;
       local = local i;
     }) in
     let same : c.in_ok-clone.field-0 ≡ name = search rules in
@@ -41,9 +42,9 @@ invariant_of-result c =
         name = same ∙ sym (ap (λ (m : Minted). m.name) mint);
         creation = c.first.ensures ∙ sym (ap (λ (m : Minted). m.creation) mint);
       };
-      drawn = λ count l. ap (λ (watches : WatchMap). fm.get watches (reference_of c.new.result.mint count)) c.new-2.ensures
+      drawn = λ count l. ap (λ (watches : WatchMap). fm.get watches (reference_of c.new.result.mint count)) c.new-3.ensures
           ∙ fm.get-empty reference_cmp (reference_of c.new.result.mint count);
-      sendable = ap are_sendable c.new-5.ensures.items;
+      sendable = ap are_sendable c.new-6.ensures.items;
       steady = subst Steady (sym is) (steady_new name setup);
       counted = subst CountsOwn (sym is) (counted_new name setup);
     }

@@ -25,7 +25,7 @@ invariant_of-self-2 c =
       flags = old.own.flags;
       cookie = old.own.cookie;
     } in
-    let is : seen_of c.start.new.self own old.dialed c.new.result c.new-2.result c.all_gone.new.self c.clear.new.self.items ≡ started m =
+    let is : seen_of c.start.new.self c.new.result own old.dialed c.new-2.result c.new-3.result c.all_gone.new.self c.clear.new.self.items ≡ started m =
     (λ i. record {
       mint = mint i;
       cookie = old.own.cookie;
@@ -33,9 +33,10 @@ invariant_of-self-2 c =
       up = c.in_ok-start.ensures.up i;
       dialed = old.dialed;
       lives = c.in_ok-start.ensures.lives i;
+      names = c.new.ensures i;
       ends = c.in_ok-start.ensures.ends i;
-      watches = c.new.ensures i;
-      registered = c.new-2.ensures i;
+      watches = c.new-2.ensures i;
+      registered = c.new-3.ensures i;
       sides = c.all_gone.ensures.sides i;
       local = ap (map own_item) c.clear.ensures.items i;
     }) in
@@ -44,7 +45,7 @@ invariant_of-self-2 c =
         name = old.introduces.name ∙ sym (ap (λ (m : Minted). m.name) mint);
         creation = c.creation-self.ensures ∙ ap (λ (m : Minted). m.creation) c.mint.ensures;
       };
-      drawn = λ count l. ap (λ (watches : WatchMap). fm.get watches (reference_of c.start.new.self.mint count)) c.new.ensures
+      drawn = λ count l. ap (λ (watches : WatchMap). fm.get watches (reference_of c.start.new.self.mint count)) c.new-2.ensures
           ∙ fm.get-empty reference_cmp (reference_of c.start.new.self.mint count);
       sendable = ap are_sendable c.clear.ensures.items;
       steady = subst Steady (sym is) (steady_started m old.steady);

@@ -17,7 +17,7 @@ invariant_of-self c =
     let old = c.args.self.now in
     let m = seen old in
     let mint = c.stop.ensures.mint in
-    let is : seen_of c.stop.new.self old.own old.dialed c.new.result c.new-2.result c.all_gone.new.self old.local.items ≡ stopped m =
+    let is : seen_of c.stop.new.self c.new.result old.own old.dialed c.new-2.result c.new-3.result c.all_gone.new.self old.local.items ≡ stopped m =
     (λ i. record {
       mint = mint i;
       cookie = old.own.cookie;
@@ -25,9 +25,10 @@ invariant_of-self c =
       up = c.stop.ensures.up i;
       dialed = old.dialed;
       lives = c.stop.ensures.lives i;
+      names = c.new.ensures i;
       ends = c.stop.ensures.ends i;
-      watches = c.new.ensures i;
-      registered = c.new-2.ensures i;
+      watches = c.new-2.ensures i;
+      registered = c.new-3.ensures i;
       sides = c.all_gone.ensures.sides i;
       local = map own_item old.local.items;
     }) in
@@ -36,7 +37,7 @@ invariant_of-self c =
         name = old.introduces.name ∙ sym (ap (λ (m : Minted). m.name) mint);
         creation = old.introduces.creation ∙ sym (ap (λ (m : Minted). m.creation) mint);
       };
-      drawn = λ count l. ap (λ (watches : WatchMap). fm.get watches (reference_of c.stop.new.self.mint count)) c.new.ensures
+      drawn = λ count l. ap (λ (watches : WatchMap). fm.get watches (reference_of c.stop.new.self.mint count)) c.new-2.ensures
           ∙ fm.get-empty reference_cmp (reference_of c.stop.new.self.mint count);
       sendable = old.sendable;
       steady = subst Steady (sym is) (steady_stopped m old.steady);
