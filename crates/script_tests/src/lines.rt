@@ -4,7 +4,7 @@ use script_lines::{MayCome, Reason, read_line};
 use std::test::*;
 
 /// Lines at the beginning of a script in which p is a process and r a reference, and what is wrong with them.
-const LINES: [(&str, Option<Reason>); 82] = [
+const LINES: [(&str, Option<Reason>); 57] = [
     ("", None),
     ("   ", None),
     ("# anything", None),
@@ -55,6 +55,17 @@ const LINES: [(&str, Option<Reason>); 82] = [
     ("exit p p normal", None),
     ("die p {stop,1}", None),
     ("die p", Some(Reason::WrongWords)),
+    ("deliver a@h zz@h", None),
+    ("deliver a@h zz", Some(Reason::BadName)),
+    ("settle", None),
+    ("settle now", Some(Reason::WrongWords)),
+    ("show\t", Some(Reason::UnknownCommand)),
+    ("Show", Some(Reason::UnknownCommand)),
+    ("show\r", Some(Reason::UnknownCommand)),
+];
+
+/// Lines about registered names, and the reason why each is a bad one.
+const NAME_LINES: [(&str, Option<Reason>); 25] = [
     ("register p srv", None),
     ("register  p  'two words'  ", None),
     ("register p", Some(Reason::WrongWords)),
@@ -80,13 +91,6 @@ const LINES: [(&str, Option<Reason>); 82] = [
     ("whereis zz Srv", Some(Reason::BadName)),
     ("whereis a@h Srv", Some(Reason::BadTerm)),
     ("whereis a@h $p", Some(Reason::BadTerm)),
-    ("deliver a@h zz@h", None),
-    ("deliver a@h zz", Some(Reason::BadName)),
-    ("settle", None),
-    ("settle now", Some(Reason::WrongWords)),
-    ("show\t", Some(Reason::UnknownCommand)),
-    ("Show", Some(Reason::UnknownCommand)),
-    ("show\r", Some(Reason::UnknownCommand)),
 ];
 
 const BEGINNING: MayCome = MayCome {
@@ -115,5 +119,15 @@ fn lines(rt: HostRuntime) -> Result<(), Fail> {
     assert!(rt; reason == Some(Reason::TooLong));
     let reason = read_line(BEGINNING, &names, b"# \xff").err();
     assert!(rt; reason == Some(Reason::NotText));
+    Ok(())
+}
+
+#[test]
+fn lines_about_names(rt: HostRuntime) -> Result<(), Fail> {
+    let names = names(rt.alloc())?;
+    for (line, wanted) in NAME_LINES {
+        let reason = read_line(BEGINNING, &names, line.as_bytes()).err();
+        assert!(rt; reason == wanted, "{line}");
+    }
     Ok(())
 }
