@@ -145,18 +145,26 @@ def signal(control):
     kinds = [field[0] for field in fields]
     if operation == 2 and len(kinds) == 2 and kinds[1] == "pid":
         return None, fields[1], True
+    if operation == 6 and len(kinds) == 3 and kinds[0] == "pid" and kinds[2] == "atom":
+        return fields[0], None, True
     if operation == 1 and kinds == ["pid", "pid"]:
         return fields[0], fields[1], False
     if operation in (3, 8) and len(kinds) == 3 and kinds[:2] == ["pid", "pid"]:
         return fields[0], fields[1], False
     if operation in (19, 20) and kinds == ["pid", "pid", "reference"]:
         return fields[0], fields[1], False
+    if operation in (19, 20) and kinds == ["pid", "atom", "reference"]:
+        return fields[0], None, False
     if operation in (24, 26) and kinds == ["pid", "pid"]:
         return fields[0], fields[1], True
     if operation == 28 and kinds == ["pid", "pid", "reference"]:
         return fields[0], fields[1], True
+    if operation == 28 and kinds == ["atom", "pid", "reference"]:
+        return None, fields[1], True
     if operation == 21 and len(kinds) == 4 and kinds[:3] == ["pid", "pid", "reference"]:
         return fields[0], fields[1], False
+    if operation == 21 and len(kinds) == 4 and kinds[:3] == ["atom", "pid", "reference"]:
+        return None, fields[1], False
     if operation in (35, 36) and kinds == ["integer", "pid", "pid"] and 1 <= fields[0][1] < 2**64:
         return fields[1], fields[2], False
     return None
@@ -242,9 +250,13 @@ def frame_due(creation, found):
         return "taken"
     _, sender, receiver = found
     is_from_peer = sender is None or (sender[1] == "b@h" and sender[4] <= creation)
+    return "taken" if is_from_peer and (receiver is None or is_spawned(receiver)) else "forged"
+
+
+def is_spawned(receiver):
     _, node, identifier, serial, born = receiver
-    is_spawned = serial == 0 and identifier > 0 and (born == 0 or (born == 1 and identifier == 1))
-    return "taken" if is_from_peer and node == "a@h" and is_spawned else "forged"
+    is_known = born == 0 or (born == 1 and identifier == 1)
+    return node == "a@h" and serial == 0 and identifier > 0 and is_known
 
 
 def status_due(awaits, status):

@@ -1,4 +1,4 @@
--- What a call of a book says to the caller.
+-- A call of a book, as its caller knows it.
 use Rattle.std.proofs.Common.{◌≡◌, ◌⊎◌, ℕ, inl, inr, Option, Ok, Err, Result}
 use Rattle.std.specs.Prelude.{IfErr, IfOk}
 use Rattle.dist_model.specs.Items.{Item}

@@ -1,4 +1,4 @@
--- What merged books come to.
+-- The outcome of merged books.
 use Rattle.std.proofs.Common.{◌≡◌, List, ◌∙◌, subst}
 use Rattle.std.specs.Prelude.{IfOk, Result, Ok}
 use Rattle.cluster_run.specs.Finishing.{IsFinished}

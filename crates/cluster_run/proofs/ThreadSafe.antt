@@ -1,4 +1,4 @@
--- What a node's book has may go to another thread, with the terms in it.
+-- A node's book, with the terms in it, may go to another thread.
 use denote.Builtin
 use denote.Param.Send.{IsSend, IsSync, plain_send, plain_sync, recorded_send, recorded_sync, sendable, struct_send, struct_sync}
 use denote.RattleType.{RattleType}

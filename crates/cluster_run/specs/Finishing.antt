@@ -1,4 +1,4 @@
--- What all books come to when the threads have ended.
+-- The outcome of all books when the threads have ended.
 use Rattle.std.specs.Prelude.{◌≡◌, List, length}
 use Rattle.dist_books.specs.Acting.{Nodes}
 use Rattle.joined_books.specs.Joined.{AreARun, IsTrace}

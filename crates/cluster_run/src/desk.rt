@@ -18,7 +18,7 @@ const LONGEST_WAIT: u64 = 100;
 /// of new connections, and the counts by which its thread is woken and watched.
 #[derive(Drop)]
 pub(crate) struct Desk {
-    /// The book. What its type keeps holds whenever the lock is taken, and nothing else is known of it then.
+    /// The book. The invariants of its type hold whenever a thread takes the lock. Nothing else is known then.
     /// No lock is over two nodes.
     pub(crate) book: Mutex<Book>,
     /// The worker. Whoever takes a turn for the node holds this lock, and takes the book's inside it.

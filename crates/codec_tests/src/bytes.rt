@@ -19,6 +19,11 @@ const NAMES: &[(&str, &str)] = &[
         "5A0003 7703614068 00000001 00000001 00000000 00000000",
     ),
     ("ATOM", "770161"),
+    // The registered name srv, as it is written, and in three other spellings.
+    ("SRV", "7703737276"),
+    ("LONG_SRV", "760003737276"),
+    ("LATIN_SRV", "7303737276"),
+    ("LONG_LATIN_SRV", "640003737276"),
     ("ONE", "6101"),
     ("EMPTY_LIST", "6C00000000"),
     // A list of 50,100 integers of a byte, as a LIST of integers in five bytes.
@@ -36,6 +41,7 @@ const NAMES: &[(&str, &str)] = &[
     // The heads of control terms.
     ("LINK", "6803 6101"),
     ("SEND", "6803 6102"),
+    ("REG_SEND", "6804 6106"),
     ("EXIT", "6804 6103"),
     ("EXIT2", "6804 6108"),
     ("MONITOR_P", "6804 6113"),

@@ -5,7 +5,7 @@ use erl_control::{
     FrameError, Item, Signal, canonical_is_framed, fits, frame, one_answer, one_frame, put_frame,
     read_again, unframe,
 };
-use erl_term::{Payload, Pid, Reference, Term, TermError, decode, pid_at};
+use erl_term::{Atom, Payload, Pid, Reference, Term, TermError, decode, pid_at};
 use std::alloc::{AllocError, Global};
 use std::test::*;
 
@@ -16,6 +16,8 @@ struct Told<'a> {
     id: u64,
     from: &'a str,
     to: &'a str,
+    /// The registered name in place of a process.
+    registered: &'a str,
     /// The node that made the reference, and the words of the reference.
     reference: (&'a str, &'a [u32]),
     /// The text of an atom that is carried.
@@ -29,6 +31,7 @@ const A_TO_B: Told<'static> = Told {
     id: 0,
     from: "a@h",
     to: "b@h",
+    registered: "",
     reference: ("", &[]),
     payload: "",
     behind: false,
@@ -39,6 +42,7 @@ const B_TO_A: Told<'static> = Told {
     id: 0,
     from: "b@h",
     to: "a@h",
+    registered: "",
     reference: ("", &[]),
     payload: "",
     behind: false,
@@ -56,12 +60,48 @@ const HI_SENT: Told<'static> = Told {
     ..A_TO_B
 };
 
+const HI_TO_NAME: Told<'static> = Told {
+    name: "REG_SEND",
+    to: "",
+    registered: "srv",
+    payload: "hi",
+    ..A_TO_B
+};
+
 const FIRST_OF_A: (&str, &[u32]) = ("a@h", &[1, 0, 0]);
+
+const SRV_MONITORED: Told<'static> = Told {
+    name: "MONITOR_P",
+    to: "",
+    registered: "srv",
+    reference: FIRST_OF_A,
+    ..A_TO_B
+};
+
+const SRV_DEMONITORED: Told<'static> = Told {
+    name: "DEMONITOR_P",
+    ..SRV_MONITORED
+};
+
+const SRV_ENDED: Told<'static> = Told {
+    name: "MONITOR_P_EXIT",
+    from: "",
+    registered: "srv",
+    reference: FIRST_OF_A,
+    payload: "normal",
+    ..B_TO_A
+};
+
+const SRV_ENDED_BEHIND: Told<'static> = Told {
+    behind: true,
+    ..SRV_ENDED
+};
 
 /// Signals, and their frames.
 const TRAVELLING: &[(Told<'static>, &str)] = &[
     (LINKED, "0000002A 70 83 LINK A B"),
     (HI_SENT, "0000001F 70 83 SEND 7700 B HI"),
+    (HI_TO_NAME, "00000024 70 83 REG_SEND A 7700 SRV HI"),
     (
         Told {
             name: "EXIT",
@@ -131,6 +171,19 @@ const TRAVELLING: &[(Told<'static>, &str)] = &[
         },
         "0000004B 70 83 PAYLOAD_MONITOR_P_EXIT B A REFERENCE 83 77066E6F726D616C",
     ),
+    (SRV_MONITORED, "00000035 70 83 MONITOR_P A SRV REFERENCE"),
+    (
+        SRV_DEMONITORED,
+        "00000035 70 83 DEMONITOR_P A SRV REFERENCE",
+    ),
+    (
+        SRV_ENDED,
+        "0000003D 70 83 MONITOR_P_EXIT SRV A REFERENCE 77066E6F726D616C",
+    ),
+    (
+        SRV_ENDED_BEHIND,
+        "0000003E 70 83 PAYLOAD_MONITOR_P_EXIT SRV A REFERENCE 83 77066E6F726D616C",
+    ),
     // A signal without a reason has one spelling.
     (
         Told {
@@ -145,6 +198,13 @@ const TRAVELLING: &[(Told<'static>, &str)] = &[
             ..HI_SENT
         },
         "0000001F 70 83 SEND 7700 B HI",
+    ),
+    (
+        Told {
+            behind: true,
+            ..HI_TO_NAME
+        },
+        "00000024 70 83 REG_SEND A 7700 SRV HI",
     ),
     (
         Told {
@@ -184,9 +244,24 @@ const RESPELLED: &[(Told<'static>, &str)] = &[
     ),
     // Any term may stand in the field that nobody uses.
     (HI_SENT, "SEND 68016B000107 B HI"),
+    (HI_TO_NAME, "REG_SEND A 68016B000107 SRV HI"),
+    // The length of the name takes two bytes.
+    (HI_TO_NAME, "REG_SEND LONG_A 7700 LONG_SRV HI"),
     // A list without elements stands for its tail.
     (LINKED, "LINK EMPTY_LIST A B"),
     (LINKED, "EMPTY_LIST LINK A EMPTY_LIST EMPTY_LIST B"),
+    // The name of a process that is monitored.
+    (SRV_MONITORED, "MONITOR_P A LONG_SRV REFERENCE"),
+    (SRV_MONITORED, "MONITOR_P A EMPTY_LIST SRV REFERENCE"),
+    (SRV_DEMONITORED, "DEMONITOR_P A LATIN_SRV REFERENCE"),
+    (
+        SRV_ENDED,
+        "MONITOR_P_EXIT LONG_LATIN_SRV A REFERENCE 77066E6F726D616C",
+    ),
+    (
+        SRV_ENDED_BEHIND,
+        "PAYLOAD_MONITOR_P_EXIT EMPTY_LIST SRV LONG_A REFERENCE 83 77066E6F726D616C",
+    ),
 ];
 
 /// Control terms that are refused.
@@ -197,20 +272,29 @@ const REFUSED: &[(&str, FrameError)] = &[
     ("UNLINK_ID A A B", FrameError::BadControl),
     ("UNLINK_ID ONE ATOM B", FrameError::BadControl),
     ("UNLINK_ID ONE A ONE", FrameError::BadControl),
+    ("UNLINK_ID ONE A ATOM", FrameError::BadControl),
     ("UNLINK_ID_ACK ATOM A B", FrameError::BadControl),
     ("UNLINK_ID_ACK ONE ONE B", FrameError::BadControl),
     ("UNLINK_ID_ACK ONE A ATOM", FrameError::BadControl),
     ("SEND ATOM ONE HI", FrameError::BadControl),
+    ("REG_SEND ATOM ATOM SRV HI", FrameError::BadControl),
+    ("REG_SEND A ATOM B HI", FrameError::BadControl),
+    ("REG_SEND A ATOM ONE HI", FrameError::BadControl),
     ("EXIT ATOM B ATOM", FrameError::BadControl),
     ("EXIT A ONE ATOM", FrameError::BadControl),
+    ("EXIT A ATOM ATOM", FrameError::BadControl),
     ("EXIT2 ONE B ATOM", FrameError::BadControl),
     ("EXIT2 A ATOM ATOM", FrameError::BadControl),
     ("MONITOR_P ONE B REFERENCE", FrameError::BadControl),
-    ("MONITOR_P A ATOM REFERENCE", FrameError::BadControl),
+    ("MONITOR_P ATOM B REFERENCE", FrameError::BadControl),
+    ("MONITOR_P SRV SRV REFERENCE", FrameError::BadControl),
+    ("MONITOR_P A ONE REFERENCE", FrameError::BadControl),
     ("MONITOR_P A B ATOM", FrameError::BadControl),
+    ("MONITOR_P A SRV SRV", FrameError::BadControl),
     ("DEMONITOR_P ATOM B REFERENCE", FrameError::BadControl),
     ("DEMONITOR_P A ONE REFERENCE", FrameError::BadControl),
     ("DEMONITOR_P A B B", FrameError::BadControl),
+    ("DEMONITOR_P A SRV A", FrameError::BadControl),
     (
         "MONITOR_P_EXIT REFERENCE B REFERENCE ATOM",
         FrameError::BadControl,
@@ -220,6 +304,11 @@ const REFUSED: &[(&str, FrameError)] = &[
         FrameError::BadControl,
     ),
     ("MONITOR_P_EXIT A B ONE ATOM", FrameError::BadControl),
+    (
+        "MONITOR_P_EXIT A SRV REFERENCE ATOM",
+        FrameError::BadControl,
+    ),
+    ("MONITOR_P_EXIT SRV B ONE ATOM", FrameError::BadControl),
     ("PAYLOAD_EXIT ATOM B 83 ATOM", FrameError::BadControl),
     ("PAYLOAD_EXIT A ONE 83 ATOM", FrameError::BadControl),
     ("PAYLOAD_EXIT2 ONE B 83 ATOM", FrameError::BadControl),
@@ -236,6 +325,14 @@ const REFUSED: &[(&str, FrameError)] = &[
         "PAYLOAD_MONITOR_P_EXIT A B ONE 83 ATOM",
         FrameError::BadControl,
     ),
+    (
+        "PAYLOAD_MONITOR_P_EXIT SRV SRV REFERENCE 83 ATOM",
+        FrameError::BadControl,
+    ),
+    (
+        "PAYLOAD_MONITOR_P_EXIT SRV B ONE 83 46",
+        FrameError::BadControl,
+    ),
     // The elements of one spelling under the tag of the other.
     ("6804 6118 A B ATOM", FrameError::BadControl),
     ("6804 611A A B ATOM", FrameError::BadControl),
@@ -243,22 +340,27 @@ const REFUSED: &[(&str, FrameError)] = &[
     ("6803 6103 A B 83 ATOM", FrameError::BadControl),
     ("6803 6108 A B 83 ATOM", FrameError::BadControl),
     ("6804 6115 A B REFERENCE 83 ATOM", FrameError::BadControl),
+    ("6805 6113 A SRV REFERENCE ATOM", FrameError::BadControl),
+    ("6805 611C SRV B REFERENCE ATOM", FrameError::BadControl),
+    ("6804 6115 SRV B REFERENCE 83 ATOM", FrameError::BadControl),
     // A list with an element stands for no pid.
     ("LINK 6C00000001 A 6A B", FrameError::BadControl),
     // Another tag, and none.
     ("6803 6104 A B", FrameError::BadControl),
-    ("6804 6106 A ATOM ATOM", FrameError::BadControl),
+    ("6804 610C ATOM B ATOM HI", FrameError::BadControl),
     ("6803 62FFFFFFFF A B", FrameError::BadControl),
     ("6803 ATOM A B", FrameError::BadControl),
     // A wrong number of elements, and no tuple.
     ("6802 6101 A", FrameError::BadControl),
     ("6804 6101 A B ATOM", FrameError::BadControl),
     ("6803 6123 A B", FrameError::BadControl),
+    ("6803 6106 A SRV HI", FrameError::BadControl),
     ("6800", FrameError::BadControl),
     ("A", FrameError::BadControl),
     // Bytes left over.
     ("LINK A B 00", FrameError::BadControl),
     ("UNLINK_ID_ACK ONE A B B", FrameError::BadControl),
+    ("MONITOR_P A SRV REFERENCE 00", FrameError::BadControl),
     // An id of 0, of 2^64 and of -1.
     ("UNLINK_ID 6100 A B", FrameError::BadControl),
     ("UNLINK_ID 6E0900 8*00 01 A B", FrameError::BadControl),
@@ -280,12 +382,31 @@ const REFUSED: &[(&str, FrameError)] = &[
         FrameError::Term(TermError::TooDeep),
     ),
     ("SEND ATOM B 83 6A 00", FrameError::BadControl),
+    ("REG_SEND A ATOM SRV", FrameError::Term(TermError::Cut)),
+    (
+        "REG_SEND A ATOM SRV 83 7702 68",
+        FrameError::Term(TermError::Cut),
+    ),
+    (
+        "REG_SEND A ATOM SRV 7701 68",
+        FrameError::Term(TermError::Malformed),
+    ),
+    ("REG_SEND A ATOM B 83 46", FrameError::BadControl),
+    ("REG_SEND A ATOM SRV 83 6A 00", FrameError::BadControl),
     // A reason behind the control term that doesn't read, or isn't there.
     ("PAYLOAD_EXIT A B", FrameError::Term(TermError::Cut)),
     ("PAYLOAD_EXIT2 A B 83", FrameError::Term(TermError::Cut)),
     (
         "PAYLOAD_MONITOR_P_EXIT A B REFERENCE 83 7702 68",
         FrameError::Term(TermError::Cut),
+    ),
+    (
+        "PAYLOAD_MONITOR_P_EXIT SRV B REFERENCE",
+        FrameError::Term(TermError::Cut),
+    ),
+    (
+        "PAYLOAD_MONITOR_P_EXIT SRV B REFERENCE 83 46",
+        FrameError::Term(TermError::OutOfProfile(70)),
     ),
     (
         "PAYLOAD_EXIT A B ATOM",
@@ -312,6 +433,10 @@ const REFUSED: &[(&str, FrameError)] = &[
         "MONITOR_P_EXIT A B REFERENCE ATOM 83 ATOM",
         FrameError::BadControl,
     ),
+    (
+        "MONITOR_P_EXIT SRV B REFERENCE ATOM 83 ATOM",
+        FrameError::BadControl,
+    ),
     // A reason of 61 levels, and a byte left over, which comes first.
     ("EXIT B A 60*6801 6800", FrameError::TooLong),
     (
@@ -323,6 +448,14 @@ const REFUSED: &[(&str, FrameError)] = &[
     ("PAYLOAD_EXIT2 B A 83 60*6801 6800", FrameError::TooLong),
     (
         "PAYLOAD_MONITOR_P_EXIT B A REFERENCE 83 60*6801 6800",
+        FrameError::TooLong,
+    ),
+    (
+        "MONITOR_P_EXIT SRV A REFERENCE 60*6801 6800",
+        FrameError::TooLong,
+    ),
+    (
+        "PAYLOAD_MONITOR_P_EXIT SRV A REFERENCE 83 60*6801 6800",
         FrameError::TooLong,
     ),
     (
@@ -425,6 +558,7 @@ const CARRIED: &[(Carried, bool)] = &[
 #[derive(Clone, Copy)]
 enum Sent {
     Send(Carried),
+    RegSend(Carried),
     Exit2(Carried),
     /// With this id.
     UnlinkIdAck(u64),
@@ -463,6 +597,7 @@ fn between<'a>(name: &'a str, from: &'a Pid, to: &'a Pid) -> Told<'a> {
         id: 0,
         from: from.node.text(),
         to: to.node.text(),
+        registered: "",
         reference: ("", &[]),
         payload: "",
         behind: false,
@@ -507,6 +642,15 @@ fn said(signal: &Signal) -> Told<'_> {
             from: "",
             ..with_payload("SEND", to, to, message)
         },
+        Signal::RegSend {
+            from,
+            name,
+            message,
+        } => Told {
+            to: "",
+            registered: name.text(),
+            ..with_payload("REG_SEND", from, from, message)
+        },
         Signal::Exit { from, to, reason } => with_payload("EXIT", from, to, reason),
         Signal::Exit2 { from, to, reason } => with_payload("EXIT2", from, to, reason),
         Signal::Monitor {
@@ -514,11 +658,29 @@ fn said(signal: &Signal) -> Told<'_> {
             to,
             reference,
         } => with_reference("MONITOR_P", from, to, reference),
+        Signal::MonitorName {
+            from,
+            name,
+            reference,
+        } => Told {
+            to: "",
+            registered: name.text(),
+            ..with_reference("MONITOR_P", from, from, reference)
+        },
         Signal::Demonitor {
             from,
             to,
             reference,
         } => with_reference("DEMONITOR_P", from, to, reference),
+        Signal::DemonitorName {
+            from,
+            name,
+            reference,
+        } => Told {
+            to: "",
+            registered: name.text(),
+            ..with_reference("DEMONITOR_P", from, from, reference)
+        },
         Signal::MonitorExit {
             from,
             to,
@@ -527,6 +689,17 @@ fn said(signal: &Signal) -> Told<'_> {
         } => Told {
             payload: atom_in(reason),
             ..with_reference("MONITOR_P_EXIT", from, to, reference)
+        },
+        Signal::MonitorNameExit {
+            name,
+            to,
+            reference,
+            reason,
+        } => Told {
+            from: "",
+            registered: name.text(),
+            payload: atom_in(reason),
+            ..with_reference("MONITOR_P_EXIT", to, to, reference)
         },
         Signal::UnlinkId { id, from, to } => with_id("UNLINK_ID", *id, from, to),
         Signal::UnlinkIdAck { id, from, to } => with_id("UNLINK_ID_ACK", *id, from, to),
@@ -608,10 +781,41 @@ fn travels_in(alloc: Global, bytes: &mut Vec<u8>, signal: &Told<'_>) -> Result<b
     Ok((alone, before_others) == (wanted, wanted))
 }
 
+/// Returns true if each cut of the frame is known as one: where the length counts the bytes that are
+/// missing, and where it doesn't.
+fn is_known_where_cut(alloc: Global, spelling: &str) -> Result<bool, Fail> {
+    let bytes = joined(alloc, &[spelling])?;
+    let is_known = is_begun(alloc, &bytes)? && is_cut(alloc, bytes.get(6..).unwrap_or(&[]))?;
+    Ok(is_known)
+}
+
+/// Returns true if more bytes are asked for behind each shorter front of the frame.
+fn is_begun(alloc: Global, frame: &[u8]) -> Result<bool, Fail> {
+    for len in 0..frame.len() {
+        let front = front_of(alloc, frame.get(..len).unwrap_or(&[]), &LINKED)?;
+        if front != Front::Begun {
+            return Ok(false);
+        }
+    }
+    Ok(true)
+}
+
+/// Returns true if each shorter front of the control term and its message is a term that is cut.
+fn is_cut(alloc: Global, control: &[u8]) -> Result<bool, Fail> {
+    for len in 0..control.len() {
+        let refused = refusal_of_bytes(alloc, control.get(..len).unwrap_or(&[]))?;
+        if refused != Some(FrameError::Term(TermError::Cut)) {
+            return Ok(false);
+        }
+    }
+    Ok(true)
+}
+
 #[test]
 fn signals_travel(rt: HostRuntime) -> Result<(), Fail> {
     for &(signal, spelling) in TRAVELLING {
         assert!(rt; travels(rt.alloc(), spelling, &signal)?, "{spelling}");
+        assert!(rt; is_known_where_cut(rt.alloc(), spelling)?, "{spelling}");
     }
     Ok(())
 }
@@ -633,7 +837,12 @@ fn every_spelling_is_read(rt: HostRuntime) -> Result<(), Fail> {
 
 /// Why the control term is refused, where it is.
 fn refusal_of_control(alloc: Global, control: &[&str]) -> Result<Option<FrameError>, Fail> {
-    let bytes = framed(alloc, control)?;
+    let control = joined(alloc, control)?;
+    refusal_of_bytes(alloc, &control)
+}
+
+fn refusal_of_bytes(alloc: Global, control: &[u8]) -> Result<Option<FrameError>, Fail> {
+    let bytes = frame_of(alloc, control)?;
     let front = front_of(alloc, &bytes, &LINKED)?;
     Ok(front.refusal())
 }
@@ -713,6 +922,24 @@ fn send_of(alloc: Global, message: Term) -> Result<Signal, Fail> {
     Ok(Signal::Send { to, message })
 }
 
+fn name(alloc: Global) -> Result<Atom, Fail> {
+    match term(alloc, "83 SRV")? {
+        Term::Atom(name) => Ok(name),
+        _ => Err("no atom".into()),
+    }
+}
+
+fn reg_send_of(alloc: Global, message: Term) -> Result<Signal, Fail> {
+    let from = pid(alloc, "A")?;
+    let name = name(alloc)?;
+    let message = Payload::new(message);
+    Ok(Signal::RegSend {
+        from,
+        name,
+        message,
+    })
+}
+
 fn exit2_of(alloc: Global, reason: Term) -> Result<Signal, Fail> {
     let (from, to) = pids(alloc)?;
     let reason = Payload::new(reason);
@@ -727,6 +954,7 @@ fn unlink_id_ack_of(alloc: Global, id: u64) -> Result<Signal, Fail> {
 fn signal_of(alloc: Global, sent: Sent) -> Result<Signal, Fail> {
     match sent {
         Sent::Send(message) => send_of(alloc, term_of(alloc, message)?),
+        Sent::RegSend(message) => reg_send_of(alloc, term_of(alloc, message)?),
         Sent::Exit2(reason) => exit2_of(alloc, term_of(alloc, reason)?),
         Sent::UnlinkIdAck(id) => unlink_id_ack_of(alloc, id),
     }
@@ -750,10 +978,15 @@ fn is_fit(alloc: Global, carried: Carried) -> Result<bool, Fail> {
     Ok(fits(&term))
 }
 
-/// Why a message that arrives is refused, where it is. One that is no value can't arrive.
-fn refusal_on_arrival(alloc: Global, carried: Carried) -> Result<Option<FrameError>, Fail> {
+/// Returns why a message that arrives behind this control term is refused, where it is. One that is no
+/// value can't arrive.
+fn refusal_on_arrival(
+    alloc: Global,
+    control: &'static str,
+    carried: Carried,
+) -> Result<Option<FrameError>, Fail> {
     match carried {
-        Carried::Spelled(message) => refusal_of_control(alloc, &["SEND ATOM B", message]),
+        Carried::Spelled(message) => refusal_of_control(alloc, &[control, message]),
         Carried::ListInTail => Ok(Some(FrameError::TooLong)),
     }
 }
@@ -767,8 +1000,10 @@ fn can_be_carried(alloc: Global, carried: Carried) -> Result<Option<bool>, Fail>
         Some(FrameError::TooLong)
     };
     if refusal_of(alloc, Sent::Send(carried))? == wanted
+        && refusal_of(alloc, Sent::RegSend(carried))? == wanted
         && refusal_of(alloc, Sent::Exit2(carried))? == wanted
-        && refusal_on_arrival(alloc, carried)? == wanted
+        && refusal_on_arrival(alloc, "SEND ATOM B", carried)? == wanted
+        && refusal_on_arrival(alloc, "REG_SEND A ATOM SRV", carried)? == wanted
     {
         Ok(Some(is_fit))
     } else {

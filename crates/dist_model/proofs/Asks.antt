@@ -4,13 +4,13 @@ use Rattle.std.proofs.Common.{◌≡◌, ℕ, Bool, true, false, cond, List, [],
 use Rattle.std.proofs.Common.{ap, ◌∙◌, subst, Option, Some, None, ◌⊎◌, inl, inr, Contains, ◌&&◌, nat_lt, ◌+◌, ◌^◌}
 use Rattle.std.proofs.lemmas.List.Elements.{Contains-append_right, Contains-push_cases}
 use Rattle.std.specs.FinMap as fm
-use Rattle.dist_model.proofs.Calls.{IfGoes, if_cond, if_not}
+use Rattle.dist_model.proofs.Calls.{IfGoes, if_cond, if_drawn, if_not}
 use Rattle.dist_model.proofs.ClosedSides.{any_found}
 use Rattle.dist_model.proofs.Entries.{registered_found, watch_found}
 use Rattle.dist_model.proofs.KeepEvents.{dial_goes, outer_parts}
 use Rattle.dist_model.proofs.KeepParts.{record_keeps}
 use Rattle.dist_model.proofs.Learnt.{Honest, Turns, fresh_learns, known_learns, lose_learns, swept_learns}
-use Rattle.dist_model.proofs.Parts.{Closed, Rules, call_kept, is_plain, item_kept, link_swept}
+use Rattle.dist_model.proofs.Parts.{Apart, Closed, Rules, call_kept, is_plain, item_kept, link_swept}
 use Rattle.dist_model.proofs.Records.{least_as}
 use Rattle.dist_model.proofs.Sides.{side_at}
 use Rattle.dist_model.proofs.Truths.{none_within}
@@ -25,13 +25,14 @@ use Rattle.dist_model.specs.Handshake.{with_side, write}
 use Rattle.dist_model.specs.Incarnations.{started, stopped}
 use Rattle.dist_model.specs.Items.{Handshake, Item, Signalled, has_reason}
 use Rattle.dist_model.specs.Losses.{any_side, least_record, link_to, sweep_by, sweep_record}
+use Rattle.monitor_core.specs.Monitors.{watch_of}
 use Rattle.dist_model.specs.Monitoring.{demonitor_by, monitor, pid_watch, unwatch, watch}
 use Rattle.dist_model.specs.Names.{Name, same_name, same_pid}
-use Rattle.dist_model.specs.Node.{Node, ends_of, is_stranger, living, reaches, route, payload_to}
+use Rattle.dist_model.specs.Node.{Node, ends_of, is_stranger, living, monitors_names, reaches, route, payload_to}
 use Rattle.dist_model.specs.NodeEvents.{Arrive, Call, Dial, Local, Lose, NodeEvent, Start, Stop, Sweep, at_node}
 use Rattle.dist_model.specs.Sides.{TrunkSide, is_losing, is_over}
 use Rattle.dist_model.specs.Taking.{take_item}
-use Rattle.dist_model.specs.Work.{Addressed, Work, at_work, draw, keep_local, post, post_all, put, report, send_on, spelled, to_pid}
+use Rattle.dist_model.specs.Work.{Addressed, Work, at_work, draw, keep_local, post, post_all, put, report, send_on, spelled, to_node, to_pid}
 use Rattle.erl_control.specs.declared.signal.Signal.{Signal}
 use Rattle.erl_handshake.specs.declared.message.ShakeMsg.{ShakeMsg}
 use Rattle.erl_names.specs.Ids.{reference_of}
@@ -79,31 +80,31 @@ exits_quiet p x (l ∷ ls) = quiets-append (exit_for p x l.0 l.1) (exits p x ls)
     one End.Active = (refl, tt)
     one _ = tt
 
-told_quiet : (t : Target) (o : Pid) (k : Reference) (x : Data) → Quiets (told_end t o k x)
+told_quiet : (t : Target) (o : Pid) (k : Reference) (x : Data) → Quiets (told_end t o k x ∷ [])
 told_quiet (Target.Pid q) o k x = (refl, tt)
-told_quiet (Target.Name name node) o k x = tt
+told_quiet (Target.Name name node) o k x = (refl, tt)
 
-back_quiet : (p : Pid) (t : Target) (k : Reference) → Quiets (taken_back p t k)
+back_quiet : (p : Pid) (t : Target) (k : Reference) → Quiets (taken_back p t k ∷ [])
 back_quiet p (Target.Pid q) k = (refl, tt)
-back_quiet p (Target.Name name node) k = tt
+back_quiet p (Target.Name name node) k = (refl, tt)
 
 monitor_exits_quiet : (p : Pid) (x : Data) (es : List (Reference × Registration)) → Quiets (monitor_exits p x es)
 monitor_exits_quiet p x [] = tt
 monitor_exits_quiet p x (e ∷ es) =
-    quiets-append (cond (same_pid e.1.held p) (told_end e.1.target e.1.owner e.0 x) []) (monitor_exits p x es)
+    quiets-append (cond (same_pid e.1.held p) (told_end e.1.target e.1.owner e.0 x ∷ []) []) (monitor_exits p x es)
     (one (same_pid e.1.held p)) (monitor_exits_quiet p x es)
   where
-    one : (b : Bool) → Quiets (cond b (told_end e.1.target e.1.owner e.0 x) [])
+    one : (b : Bool) → Quiets (cond b (told_end e.1.target e.1.owner e.0 x ∷ []) [])
     one true = told_quiet e.1.target e.1.owner e.0 x
     one false = tt
 
 demonitors_quiet : (p : Pid) (es : List (Reference × Watch)) → Quiets (demonitors p es)
 demonitors_quiet p [] = tt
 demonitors_quiet p (e ∷ es) =
-    quiets-append (cond (same_pid e.1.owner p) (taken_back p e.1.target e.0) []) (demonitors p es)
+    quiets-append (cond (same_pid e.1.owner p) (taken_back p e.1.target e.0 ∷ []) []) (demonitors p es)
     (one (same_pid e.1.owner p)) (demonitors_quiet p es)
   where
-    one : (b : Bool) → Quiets (cond b (taken_back p e.1.target e.0) [])
+    one : (b : Bool) → Quiets (cond b (taken_back p e.1.target e.0 ∷ []) [])
     one true = back_quiet p e.1.target e.0
     one false = tt
 
@@ -195,10 +196,15 @@ module _ (l : List Item) where
     gone = λ p q pay e l. refl;
     acts = λ p q x pay e l a. tt;
     sent = λ p m pay e. reports (Effect.Put p m) o (λ t y j q. cc) k;
+    named = λ q p name m pay e. reports (Effect.Put p m) o (λ t y j q. cc) k;
     nobody = λ p q r pay e l. refl;
+    nobody_named = λ p name r pay e. refl;
     joins = λ p q r pay e l. tt;
+    joins_named = λ p name r pay q e l. tt;
     drops = λ p q r pay m e h s. tt;
+    drops_named = λ p name r pay m e h s. tt;
     tells = λ p q r x pay e h. tt;
+    tells_named = λ p name r x pay e h. tt;
   }) k
 
   turned : (t : TrunkId) (s : TrunkSide) (o : Work) → Turns (λ c. Unit {0}) o.node t s → Unasked o → Unasked (with_side t s o)
@@ -256,15 +262,33 @@ module _ (n : Node) where
   demonitored : (v : Option Watch) (p : Pid) (r : Reference) → IfGoes (demonitor_by v p r (at_work n)) X
   demonitored None p r = tt
   demonitored (Some v) p r = if_cond (same_pid v.owner p) _ Refusal.NotTheOwner X
-      (λ h. posts_all n.local (taken_back p v.target r) (unwatch r (at_work n)) (back_quiet p v.target r) start)
+      (λ h. posts n.local (taken_back p v.target r) (unwatch r (at_work n)) ((back_quiet p v.target r).0) start)
 
-  apart : (c : Command) → ((p q : Pid) → c ≡ Command.Monitor p q → ⊥) → ((p : Pid) (r : Reference) → c ≡ Command.Demonitor p r → ⊥)
-      → IfGoes (call n c) X
-  apart c a b = call_kept quiet_rules X (quiet_closed n.local) n start c (a, b) (λ id e h. start) (λ p q e l r. tt)
+  -- a process monitors another by its name: no MONITOR_P of a pid is sent
+  asks_by_name : (p : Pid) (y name : Name) (count : ℕ)
+      → X (monitor (reference_of n.mint count) p (Target.Name name y) (draw kind.Reference (at_work n)))
+  asks_by_name p y name count = go (reaches n y)
+    where
+      r : Reference
+      r = reference_of n.mint count
+
+      o : Work
+      o = draw kind.Reference (at_work n)
+
+      go : (b : Bool) → X (cond b (post (to_node y (Signal.MonitorName p name r)) (watch r (watch_of p (Target.Name name y)) o))
+          (put p (down_term r (object (Target.Name name y)) noconnection) o))
+      go true = posts n.local (to_node y (Signal.MonitorName p name r)) (watch r (watch_of p (Target.Name name y)) o) refl start
+      go false = reports n.local (Effect.Put p (down_term r (object (Target.Name name y)) noconnection)) o (λ t z i q. cc) start
+
+  apart : (c : Command) → Apart c → IfGoes (call n c) X
+  apart c a = call_kept quiet_rules X (quiet_closed n.local) n start c a (λ id e h. start) (λ p q e l r. tt)
 
   calls : (c : Command) → ((p q : Pid) → c ≡ Command.Monitor p q → ⊥) → IfGoes (call n c) X
   calls (Command.Demonitor p r) a = if_cond (living n p) _ Refusal.NoSuchProcess X (λ l. demonitored (fm.get n.watches r) p r)
-  calls c a = apart c a (λ p r e. cc)
+  calls (Command.MonitorName p y name) a = if_cond (living n p) _ Refusal.NoSuchProcess X (λ l.
+      if_cond (monitors_names n y) _ Refusal.NotOffered X (λ f.
+      if_drawn (id_of n.mint kind.Reference) _ X (λ count h. asks_by_name p y name count)))
+  calls c a = apart c (a, (λ p r e. cc), (λ p y name e. cc))
 
 -- but for a Monitor call
 pub node_unasked : (names : List Name) (n : Node) (e : NodeEvent) → ((p q : Pid) → e ≡ Call (Command.Monitor p q) → ⊥)
@@ -369,7 +393,7 @@ module _ (n : Node) (p q : Pid) where
   )
 
   drawn : living n p ≡ true → (v : Option ℕ) → IfAnswers (with_id v (λ count. Accepts (Answer.Reference (reference_of n.mint count))
-      (monitor (reference_of n.mint count) p q (draw kind.Reference (at_work n))))) AllAsked
+      (monitor (reference_of n.mint count) p (Target.Pid q) (draw kind.Reference (at_work n))))) AllAsked
   drawn l None = tt
   drawn l (Some count) = go (reaches n q.node)
     where

@@ -20,11 +20,11 @@ use Rattle.dist_model.specs.Exits.{sent_exit}
 use Rattle.erl_control.specs.Fits.{fits}
 use Rattle.dist_model.specs.Items.{Item, Signalled, news_in, telling}
 use Rattle.dist_model.specs.Linking.{unlink_by}
-use Rattle.dist_model.specs.Monitoring.{demonitor_by, monitor, pid_watch, register, registration_of, unregister, unwatch, watch}
+use Rattle.dist_model.specs.Monitoring.{bind, bound, demonitor_by, monitor, pid_watch, register, registration_of, unregister, unwatch, watch}
 use Rattle.dist_model.specs.Names.{Name, same_name, same_pid}
 use Rattle.dist_model.specs.Naming.{NameMap, name_of, without_holder}
-use Rattle.dist_model.specs.Node.{Life, Living, Node, end_of, is_living_life, living, is_stranger, reaches, traps_life}
-use Rattle.dist_model.specs.Taking.{take_item}
+use Rattle.dist_model.specs.Node.{Life, Living, Node, end_of, is_living_life, living, is_stranger, monitors_names, reaches, traps_life}
+use Rattle.dist_model.specs.Taking.{take_item, take_named}
 use Rattle.dist_model.specs.Work.{Work, at_work, draw, post, post_all, put, set_end, set_life, spelled, to_pid}
 use Rattle.erl_control.specs.declared.signal.Signal.{Signal}
 use Rattle.erl_names.specs.Ids.{pid_of, reference_of}
@@ -33,19 +33,19 @@ use Rattle.erl_term.specs.Order.{pid_cmp}
 use Rattle.erl_term.specs.declared.refusal.Refusal.{Refusal}
 use Rattle.erl_term.specs.declared.term.Pid.{Pid}
 use Rattle.erl_term.specs.declared.term.Reference.{Reference}
-use Rattle.exit_core.specs.Messages.{down_term}
+use Rattle.exit_core.specs.Messages.{down_term, named_term}
 use Rattle.exit_core.specs.Reaction.{reaction}
 use Rattle.link_core.specs.News.{Exited, LinkNews, Signals, noconnection, noproc}
 use Rattle.link_core.specs.declared.end.End.{End}
 use Rattle.link_core.specs.declared.end.LinkSignal.{LinkSignal}
-use Rattle.monitor_core.specs.Monitors.{RegistrationMap, WatchMap, added, as_watch, is_held, itself}
+use Rattle.monitor_core.specs.Monitors.{RegistrationMap, WatchMap, added, as_watch, is_held, itself, target_node, watch_of}
 use Rattle.std.specs.FinMap.{FinMap}
 use Rattle.erl_names.specs.declared.trunk.TrunkId.{TrunkId}
 use Rattle.link_core.proofs.Kept.{Kept, side_path}
 use Rattle.monitor_core.specs.declared.monitor.Target.{Target}
 use Rattle.monitor_core.specs.declared.monitor.Watch.{Watch}
-use Rattle.dist_model.specs.Telling.{taken_back}
-use Rattle.erl_term.specs.Data.{pid}
+use Rattle.dist_model.specs.Telling.{asked, object, taken_back, told_end}
+use Rattle.erl_term.specs.Data.{Data, pid}
 use Rattle.monitor_core.specs.declared.monitor.Registration.{Registration}
 
 -- what holds of the work where the event goes through
@@ -140,6 +140,21 @@ says_something q p s pay h =
     let n : s ∷ [] ≡ [] = sym (telling_news q p q p s pay ∙ ap (λ t. cond (t && same_pid p p) (s ∷ []) []) (same_pid_refl q)
     ∙ ap (λ t. cond t (s ∷ []) []) (same_pid_refl p)) ∙ h in cc
 
+-- a monitor of a name is bound to its holder
+named_bound : (v : Option Pid) (p : Pid) (name y : Name) (k : Reference) (o : Work) → Moves o (bind v p (Target.Name name y) k o)
+named_bound v p name y k o = go v
+  where
+    tells : Moves o (post (told_end (Target.Name name y) p k noproc) o)
+    tells = posts_other p.node (spelled o.node (told_end (Target.Name name y) p k noproc)) o (λ a b. refl)
+
+    go : (v : Option Pid) → Moves o (bind v p (Target.Name name y) k o)
+    go None = tells
+    go (Some q) = moves_cond (living o.node q) o _ _ (λ l. registers k (bound p (Target.Name name y) q) o) (λ l. tells)
+
+named_moves : (v : Option Pid) (t : Data) (o : Work) → Moves o (take_named v t o)
+named_moves None t o = stays o
+named_moves (Some p) t o = moves_cond (living o.node p) o (put p t o) o (λ l. puts p t o) (λ l. stays o)
+
 -- the other signals
 pub takes_other : (y : Name) (x : Item) (o : Work) → ((p q : Pid) → news_in p q x ≡ []) → Moves o (take_item y x o)
 takes_other y (Signalled (Signal.Link q p) pay) o h = absurd (says_something q p (Signals LinkSignal.Link) pay (h q p))
@@ -147,14 +162,24 @@ takes_other y (Signalled (Signal.Exit q p r) pay) o h = absurd (says_something q
 takes_other y (Signalled (Signal.UnlinkId i q p) pay) o h = absurd (says_something q p (Signals (LinkSignal.Unlink i)) pay (h q p))
 takes_other y (Signalled (Signal.UnlinkIdAck i q p) pay) o h = absurd (says_something q p (Signals (LinkSignal.Ack i)) pay (h q p))
 takes_other y (Signalled (Signal.Send p t) pay) o h = moves_cond (living o.node p) o (put p t o) o (λ l. puts p t o) (λ l. stays o)
+takes_other y (Signalled (Signal.RegSend q name t) pay) o h = named_moves (fm.get o.node.names name) t o
 takes_other y (Signalled (Signal.Exit2 q p r) pay) o h =
     moves_cond (living o.node p) o _ o
     (λ l. carries_out (reaction (traps_life (fm.get o.node.lives p)) (sent_exit p q r)) p o l) (λ l. stays o)
 takes_other y (Signalled (Signal.Monitor q p k) pay) o h =
     moves_cond (living o.node p) o _ _ (λ l. registers k (registration_of q p) o)
     (λ l. posts_other q.node (spelled o.node (to_pid q (Signal.MonitorExit p q k noproc))) o (λ a b. refl))
+takes_other y (Signalled (Signal.MonitorName q name k) pay) o h = named_bound (fm.get o.node.names name) q name o.node.mint.name k o
 takes_other y (Signalled (Signal.Demonitor q p k) pay) o h =
     moves_cond (is_held as_watch o.node.registered k (pid_watch q p)) o _ _ (λ l. unregisters k o) (λ l. stays o)
+takes_other y (Signalled (Signal.DemonitorName q name k) pay) o h =
+    moves_cond (is_held as_watch o.node.registered k (watch_of q (Target.Name name o.node.mint.name))) o _ _
+    (λ l. unregisters k o) (λ l. stays o)
+takes_other y (Signalled (Signal.MonitorNameExit name p k r) pay) o h =
+    moves_cond (living o.node p && is_held itself o.node.watches k (watch_of p (Target.Name name y))) o _ _
+    (λ l. then o (unwatch k o) (put p (down_term k (named_term name y) r) (unwatch k o)) (unwatches_one k o)
+    (puts p (down_term k (named_term name y) r) (unwatch k o)))
+    (λ l. stays o)
 takes_other y (Signalled (Signal.MonitorExit q p k r) pay) o h = moves_cond (living o.node p && is_held itself o.node.watches k (pid_watch p q)) o _ _
     (λ l. then o (unwatch k o) (put p (down_term k (pid q) r) (unwatch k o)) (unwatches_one k o) (puts p (down_term k (pid q) r) (unwatch k o)))
     (λ l. stays o)
@@ -359,9 +384,22 @@ sets_life n p l h =
     same_lives (at_work n) (set_life n.lives p l) (λ x. set_life_living n.lives p l x (λ e. h ∙ ap (living n) (sym (same_pid_true x p e))))
 
 -- whichever target it was
-takes_back : (t : Target) (p : Pid) (k : Reference) (o : Work) → Moves o (post_all (taken_back p t k) o)
+takes_back : (t : Target) (p : Pid) (k : Reference) (o : Work) → Moves o (post (taken_back p t k) o)
 takes_back (Target.Pid q) p k o = posts_other q.node (Signalled (Signal.Demonitor p q k) false) o (λ a b. refl)
-takes_back (Target.Name name node) p k o = stays o
+takes_back (Target.Name name node) p k o = posts_other node (Signalled (Signal.DemonitorName p name k) false) o (λ a b. refl)
+
+asks_for : (t : Target) (p : Pid) (k : Reference) (o : Work) → Moves o (post (asked p t k) o)
+asks_for (Target.Pid q) p k o = posts_other q.node (Signalled (Signal.Monitor p q k) false) o (λ a b. refl)
+asks_for (Target.Name name node) p k o = posts_other node (Signalled (Signal.MonitorName p name k) false) o (λ a b. refl)
+
+monitors : (n : Node) (p : Pid) (t : Target) (count : ℕ)
+    → Moves (at_work n) (monitor (reference_of n.mint count) p t (draw kind.Reference (at_work n)))
+monitors n p t count =
+    let o = draw kind.Reference (at_work n) in
+    let k = reference_of n.mint count in
+    then (at_work n) o (monitor k p t o) (draws_reference (at_work n)) (moves_cond (reaches o.node (target_node t)) o _ _
+    (λ r. then o (watch k (watch_of p t) o) _ (watches_one k (watch_of p t) o) (asks_for t p k (watch k (watch_of p t) o)))
+    (λ r. puts p (down_term k (object t) noconnection) o))
 
 demonitors : (v : Option Watch) (p : Pid) (k : Reference) (o : Work) → IfGoes (demonitor_by v p k o) (Moves o)
 demonitors None p k o = tt
@@ -444,15 +482,16 @@ calls n Command.Spawn = if_drawn (id_of n.mint kind.Pid) _ (Moves (at_work n)) (
 calls n (Command.Send p q t) =
     acts n p q _ (λ l. if_cond (fits t) _ Refusal.TooLong (Moves (at_work n))
     (λ f. posts_other q.node (Signalled (Signal.Send q t) false) (at_work n) (λ a b. refl)))
+calls n (Command.SendName p y name t) =
+    if_cond (living n p) _ Refusal.NoSuchProcess (Moves (at_work n)) (λ l. if_cond (fits t) _ Refusal.TooLong (Moves (at_work n))
+    (λ f. posts_other y (Signalled (Signal.RegSend p name t) false) (at_work n) (λ a b. refl)))
 calls n (Command.Link p q) = acts_known n p q _ (λ l v. links p q (at_work n) v l)
 calls n (Command.Unlink p q) = acts n p q _ (λ l. unlinks_by (end_of n p q) p q (at_work n) refl l)
-calls n (Command.Monitor p q) = acts n p q _ (λ l. if_drawn (id_of n.mint kind.Reference) _ (Moves (at_work n)) (λ count h.
-    let o = draw kind.Reference (at_work n) in
-    let k = reference_of n.mint count in
-    then (at_work n) o (monitor k p q o) (draws_reference (at_work n)) (moves_cond (reaches o.node q.node) o _ _
-    (λ r. then o (watch k (pid_watch p q) o) _ (watches_one k (pid_watch p q) o)
-    (posts_other q.node (Signalled (Signal.Monitor p q k) false) (watch k (pid_watch p q) o) (λ a b. refl)))
-    (λ r. puts p (down_term k (pid q) noconnection) o))))
+calls n (Command.Monitor p q) =
+    acts n p q _ (λ l. if_drawn (id_of n.mint kind.Reference) _ (Moves (at_work n)) (λ count h. monitors n p (Target.Pid q) count))
+calls n (Command.MonitorName p y name) = if_cond (living n p) _ Refusal.NoSuchProcess (Moves (at_work n))
+    (λ l. if_cond (monitors_names n y) _ Refusal.NotOffered (Moves (at_work n))
+    (λ f. if_drawn (id_of n.mint kind.Reference) _ (Moves (at_work n)) (λ count h. monitors n p (Target.Name name y) count)))
 calls n (Command.Demonitor p k) =
     if_cond (living n p) _ Refusal.NoSuchProcess (Moves (at_work n)) (λ l. demonitors (fm.get n.watches k) p k (at_work n))
 calls n (Command.Trap p b) =

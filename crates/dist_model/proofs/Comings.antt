@@ -16,11 +16,11 @@ use Rattle.dist_model.proofs.SideAges.{ageless}
 use Rattle.dist_model.proofs.Calls.{IfGoes}
 use Rattle.dist_model.proofs.ClosedSides.{any_found, gone_side, gone_sides, losing_is}
 use Rattle.dist_model.proofs.Deeds.{downs_mere, Right, Shaken, U, Whole, at_pid, begins, counted, dead_now}
-use Rattle.dist_model.proofs.Deeds.{held_active, kn, nm, no_connection, old_cause, over_of, over_parts}
-use Rattle.dist_model.proofs.Deeds.{rules, shaken, shaken_side, shaken_wrote, were, whole_closed}
+use Rattle.dist_model.proofs.Deeds.{cause_over, held_active, kn, nm, no_connection, old_cause, over_of, over_parts}
+use Rattle.dist_model.proofs.Deeds.{rules, shaken, shaken_side, shaken_wrote, unreached_cause, were, whole_closed}
 use Rattle.dist_model.proofs.Entries.{registered_found, watch_found}
 use Rattle.dist_model.proofs.Events.{AllGo, Done, all_go, done, done_shaken, done_whole, go_cond, go_not}
-use Rattle.dist_model.proofs.Founded.{founded_by, true_put, true_node}
+use Rattle.dist_model.proofs.Founded.{IsAsked, founded_by, true_put, true_node}
 use Rattle.dist_model.proofs.HandshakeParts.{Aged, Fresh, Roomy, Turned, fresh_kept, known_fault, lose_kept}
 use Rattle.dist_model.proofs.HandshakeParts.{as_state, parked_ages, room_new, swept_kept, towards_set}
 use Rattle.dist_model.specs.Keeping.{Towards}
@@ -33,7 +33,8 @@ use Rattle.dist_model.proofs.Sides.{side_at}
 use Rattle.dist_model.proofs.Steps.{not_never}
 use Rattle.dist_model.proofs.Sweeps.{link_found, losing_unreached}
 use Rattle.dist_model.proofs.Trunks.{Good, has}
-use Rattle.dist_model.proofs.Told.{Called, CauseOf, Course, Drawn, IsFounded, Leaves, Off, Old, Sound, Stays, named_pid}
+use Rattle.dist_model.proofs.Told.{Called, CalledNow, Course, Drawn, IsFounded, Leaves, Off, OffAfter, Old, Sound, Stays}
+use Rattle.dist_model.specs.Causes.{CauseOf}
 use Rattle.dist_model.proofs.Lands.{no_more}
 use Rattle.dist_model.proofs.MonitorMoves.{lives_same, node_aside, turns_aside}
 use Rattle.dist_model.specs.Arrivals.{arrive_at, arrive_fresh, from_peer, handshake_in, is_good, on_up, signal_at, take_local, to_own}
@@ -54,7 +55,7 @@ use Rattle.dist_model.specs.Losses.{least_record, swept_kind, any_side, link_to,
 use Rattle.dist_model.specs.Names.{Name, same_name}
 use Rattle.dist_model.specs.Node.{Node, end_of, is_living_life, living, is_stranger, reaches, side_where}
 use Rattle.dist_model.specs.Sides.{Accepting, AwaitsStatus, Gone, Losing, State, TrunkSide, Up, is_gone, is_losing, is_over}
-use Rattle.dist_model.specs.Taking.{take_item}
+use Rattle.dist_model.specs.Taking.{take_item, take_message, take_named}
 use Rattle.dist_model.specs.Work.{Work, at_work, delivered, put}
 use Rattle.dist_model.specs.declared.report.Effect.{Effect}
 use Rattle.dist_model.specs.World.{Arrive, Dial, Event, Local, Lose, Report, Reported, Start, Stop, Sweep, World, list_to, node_of}
@@ -73,12 +74,23 @@ use Rattle.monitor_core.specs.declared.monitor.Target.{Target}
 use Rattle.monitor_core.specs.declared.monitor.Watch.{Watch}
 use Rattle.monitor_core.specs.Monitors.{target_node}
 
--- a message that was sent, or not
-pub sent_or_not : (i : Item) → ((p : Pid) × (m : Data) × (pay : Bool) × (i ≡ Signalled (Signal.Send p m) pay))
-    ⊎ (((p : Pid) (m : Data) (pay : Bool) → i ≡ Signalled (Signal.Send p m) pay → ⊥) × (is_sent_message (Answer.Took (kind_of i)) ≡ false))
+-- a message to a process
+abbrev IsSend : Item → Type 0
+IsSend i = (p : Pid) × (m : Data) × (pay : Bool) × (i ≡ Signalled (Signal.Send p m) pay)
+
+-- a message to a name
+abbrev IsRegSend : Item → Type 0
+IsRegSend i = (q : Pid) × (name : Name) × (m : Data) × (pay : Bool) × (i ≡ Signalled (Signal.RegSend q name m) pay)
+
+-- an item that brings no message
+abbrev IsUnsent : Item → Type 0
+IsUnsent i = is_sent_message (Answer.Took (kind_of i)) ≡ false
+
+sent_or_not : (i : Item) → IsSend i ⊎ (IsRegSend i ⊎ IsUnsent i)
 sent_or_not (Signalled (Signal.Send p m) pay) = inl (p, m, pay, refl)
-sent_or_not (Handshake (ShakeMsg.SendName c f n)) = inr (λ a b pay i. cc, refl)
-sent_or_not _ = inr (λ a b pay i. cc, refl)
+sent_or_not (Signalled (Signal.RegSend q name m) pay) = inr (inl (q, name, m, pay, refl))
+sent_or_not (Handshake (ShakeMsg.SendName c f n)) = inr (inr refl)
+sent_or_not _ = inr (inr refl)
 
 pub five : (a b c d e : Bool) → (a || b || c || d || e) ≡ false → (a ≡ false) × (b ≡ false) × (c ≡ false) × (d ≡ false) × (e ≡ false)
 five false false false false e h = (refl, refl, refl, refl, h)
@@ -132,7 +144,7 @@ module _ (w : World) (h : History) (x : Name) (n : Node) (hx : node_of w.nodes x
     calm_done : (a : Answer) (o : Work) → Calm o → D e xs a o
     calm_done a o k = done w h x n hx gw g e xs a o (λ r. na r (Reported a o.effects)) (λ r. nd r (Reported a o.effects)) k.shaken.truth
         (turns_aside (record n { local = xs }) (λ r u z. CauseOf h w u.owner u.target z)
-        (λ r u. Monitored r u.owner (Target.Pid u.held) h) (λ r u. Off w h r ⊎ (reaches n u.owner.node ≡ false))
+        (λ r u. IsAsked (Called h) u.target u.owner r) (λ r u. Off w h r ⊎ (reaches n u.owner.node ≡ false))
         (were w h x n hx gw g) o (counted w h x n hx gw g e xs a o) (record {
           watches = λ r. refl;
           downs = λ r. none_counted r (takes_message e (Reported a o.effects)) o.effects (k.none r);
@@ -160,29 +172,32 @@ module _ (w : World) (h : History) (x : Name) (n : Node) (hx : node_of w.nodes x
           (monitor_known : (p q : Pid) (r : Reference) (pay : Bool) → i ≡ Signalled (Signal.Monitor p q r) pay → is_stranger n q ≡ false)
           (counts : (fs : List (Effect Item))
           → takes_message e (Reported (Answer.Took (kind_of i)) fs) ≡ is_sent_message (Answer.Took (kind_of i))) where
-        reasons : ((p : Pid) (m : Data) (pay : Bool) → i ≡ Signalled (Signal.Send p m) pay → ⊥)
-            → Reasons (rules w h x n hx gw g e xs) (Whole w h x n hx gw g e xs) i (at_work (record n { local = xs }))
+        reasons : IsUnsent i
+            → Reasons (rules w h x n hx gw g e xs) (Whole w h x n hx gw g e xs) source i (at_work (record n { local = xs }))
         reasons ns = record {
           gone = λ p q pay j l. (dead_now w h x n hx gw g p l (link_known p q pay j), λ s. tt);
           acts = λ p q z pay j l a. held_active w h x n hx gw g e p q z l a (old_cause w h p q z (subst (λ v. IsFounded w h v) j fi));
-          sent = λ p m pay j. absurd (ns p m pay j);
+          sent = λ p m pay j. let c : true ≡ false = sym (ap (λ v. is_sent_message (Answer.Took (kind_of v))) j) ∙ ns in cc;
+          named = λ q p y m pay j. let c : true ≡ false = sym (ap (λ v. is_sent_message (Answer.Took (kind_of v))) j) ∙ ns in cc;
           nobody = λ p q r pay j l.
               ((dead_now w h x n hx gw g q l (monitor_known p q r pay j), subst (λ v. IsFounded w h v) j fi), λ s. tt);
+          nobody_named = λ p y r pay j. ((inl refl, subst (λ v. IsFounded w h v) j fi), λ s. tt);
           joins = λ p q r pay j l. subst (λ v. IsFounded w h v) j fi;
+          joins_named = λ p y r pay q j l. subst (λ v. IsFounded w h v) j fi;
           drops = λ p q r pay m j c s. inl (subst (λ v. IsFounded w h v) j fi);
+          drops_named = λ p y r pay m j c s. inl (subst (λ v. IsFounded w h v) j fi);
           tells = λ p q r z pay j c. old_cause w h p q z (subst (λ v. IsFounded w h v) j fi).0;
+          tells_named = λ p y r z pay j c. cause_over w h p (Target.Name y source) z (subst (λ v. IsFounded w h v) j fi).0;
         }
 
-        item_done : ((p : Pid) (m : Data) (pay : Bool) → i ≡ Signalled (Signal.Send p m) pay → ⊥)
-            → is_sent_message (Answer.Took (kind_of i)) ≡ false
-            → D e xs (Answer.Took (kind_of i)) (take_item source i (at_work (record n { local = xs })))
-        item_done ns unsent =
+        item_done : IsUnsent i → D e xs (Answer.Took (kind_of i)) (take_item source i (at_work (record n { local = xs })))
+        item_done unsent =
             let o = take_item source i (at_work (record n { local = xs })) in
             done_whole w h x n hx gw g e xs (Answer.Took (kind_of i)) o
             (λ r. na r (Reported (Answer.Took (kind_of i)) o.effects))
             (λ r. nd r (Reported (Answer.Took (kind_of i)) o.effects)) (counts o.effects ∙ unsent)
             (item_kept (rules w h x n hx gw g e xs) (Whole w h x n hx gw g e xs) (whole_closed w h x n hx gw g e xs) source i
-            (at_work (record n { local = xs })) (reasons ns) whole)
+            (at_work (record n { local = xs })) (reasons unsent) whole)
 
         -- a message that a process sent
         put_done : (p : Pid) (m : Data) → is_sent_message (Answer.Took (kind_of i)) ≡ true
@@ -192,7 +207,7 @@ module _ (w : World) (h : History) (x : Name) (n : Node) (hx : node_of w.nodes x
             let o = put p m o0 in
             let lv =
             lives_same (record n { local = xs }) (λ r u z. CauseOf h w u.owner u.target z)
-            (λ r u. Monitored r u.owner (Target.Pid u.held) h) (λ r u. Off w h r ⊎ (reaches n u.owner.node ≡ false))
+            (λ r u. IsAsked (Called h) u.target u.owner r) (λ r u. Off w h r ⊎ (reaches n u.owner.node ≡ false))
             (were w h x n hx gw g) p (delivered (fm.get n.lives p) m) o0 (living_received (fm.get n.lives p) m) in
             done w h x n hx gw g e xs (Answer.Took (kind_of i)) o (λ r. na r (Reported (Answer.Took (kind_of i)) o.effects))
             (λ r. nd r (Reported (Answer.Took (kind_of i)) o.effects))
@@ -200,34 +215,49 @@ module _ (w : World) (h : History) (x : Name) (n : Node) (hx : node_of w.nodes x
             (subst (λ b. U w h x n hx gw g e xs (record { node = o.node; effects = cond b (mere o.effects) o.effects }))
             (sym (counts o.effects ∙ is_sent))
             (turns_aside (record n { local = xs }) (λ r u z. CauseOf h w u.owner u.target z)
-            (λ r u. Monitored r u.owner (Target.Pid u.held) h) (λ r u. Off w h r ⊎ (reaches n u.owner.node ≡ false))
+            (λ r u. IsAsked (Called h) u.target u.owner r) (λ r u. Off w h r ⊎ (reaches n u.owner.node ≡ false))
             (were w h x n hx gw g) o0 (record o0 { node = o.node })
             (node_aside (record n { local = xs }) (λ r u z. CauseOf h w u.owner u.target z)
-            (λ r u. Monitored r u.owner (Target.Pid u.held) h) (λ r u. Off w h r ⊎ (reaches n u.owner.node ≡ false))
+            (λ r u. IsAsked (Called h) u.target u.owner r) (λ r u. Off w h r ⊎ (reaches n u.owner.node ≡ false))
             (were w h x n hx gw g) o0 o.node refl refl refl lv refl refl refl refl) whole.core.turns))
             (record { local = whole.home.local; name = whole.home.name }) (ageless n o.node refl)
+
+        message_done : (p : Pid) (m : Data) → is_sent_message (Answer.Took (kind_of i)) ≡ true
+            → D e xs (Answer.Took (kind_of i)) (take_message p m (at_work (record n { local = xs })))
+        message_done p m is_sent = go (living n p)
+          where
+            go : (b : Bool) → D e xs (Answer.Took (kind_of i))
+                (cond b (put p m (at_work (record n { local = xs }))) (at_work (record n { local = xs })))
+            go true = put_done p m is_sent
+            go false = calm_done (Answer.Took (kind_of i)) (at_work (record n { local = xs })) calm
 
         send_done : (p : Pid) (m : Data) (pay : Bool) → i ≡ Signalled (Signal.Send p m) pay
             → D e xs (Answer.Took (kind_of i)) (take_item source i (at_work (record n { local = xs })))
         send_done p m pay j =
             let is_sent : is_sent_message (Answer.Took (kind_of i)) ≡ true = ap (λ v. is_sent_message (Answer.Took (kind_of v))) j in
             subst (λ v. D e xs (Answer.Took (kind_of i)) (take_item source v (at_work (record n { local = xs })))) (sym j)
-            (go (living n p) is_sent)
+            (message_done p m is_sent)
+
+        reg_send_done : (q : Pid) (y : Name) (m : Data) (pay : Bool) → i ≡ Signalled (Signal.RegSend q y m) pay
+            → D e xs (Answer.Took (kind_of i)) (take_item source i (at_work (record n { local = xs })))
+        reg_send_done q y m pay j =
+            let is_sent : is_sent_message (Answer.Took (kind_of i)) ≡ true = ap (λ v. is_sent_message (Answer.Took (kind_of v))) j in
+            subst (λ v. D e xs (Answer.Took (kind_of i)) (take_item source v (at_work (record n { local = xs })))) (sym j)
+            (go (fm.get n.names y) is_sent)
           where
-            go : (b : Bool) → is_sent_message (Answer.Took (kind_of i)) ≡ true → D e xs (Answer.Took (kind_of i))
-                (cond b (put p m (at_work (record n { local = xs }))) (at_work (record n { local = xs })))
-            go true is_sent = put_done p m is_sent
-            go false is_sent = calm_done (Answer.Took (kind_of i)) (at_work (record n { local = xs })) calm
+            go : (v : Option Pid) → is_sent_message (Answer.Took (kind_of i)) ≡ true → D e xs (Answer.Took (kind_of i))
+                (take_named v m (at_work (record n { local = xs })))
+            go (Some p) is_sent = message_done p m is_sent
+            go None is_sent = calm_done (Answer.Took (kind_of i)) (at_work (record n { local = xs })) calm
 
         pub taken_done : D e xs (Answer.Took (kind_of i)) (take_item source i (at_work (record n { local = xs })))
         taken_done = go (sent_or_not i)
           where
-            go : ((p : Pid) × (m : Data) × (pay : Bool) × (i ≡ Signalled (Signal.Send p m) pay))
-                ⊎ (((p : Pid) (m : Data) (pay : Bool) → i ≡ Signalled (Signal.Send p m) pay → ⊥)
-                × (is_sent_message (Answer.Took (kind_of i)) ≡ false))
+            go : IsSend i ⊎ (IsRegSend i ⊎ IsUnsent i)
                 → D e xs (Answer.Took (kind_of i)) (take_item source i (at_work (record n { local = xs })))
             go (inl s) = send_done s.0 s.1 s.2 s.3
-            go (inr s) = item_done s.0 s.1
+            go (inr (inl s)) = reg_send_done s.0 s.1 s.2 s.3 s.4
+            go (inr (inr s)) = item_done s
 
   -- ---- on a trunk
 
@@ -339,9 +369,9 @@ module _ (w : World) (h : History) (x : Name) (n : Node) (hx : node_of w.nodes x
         shaken = record {
           truth =
               true_node n (Old w h) (Right w h (Dial x y k)) (Called h) (Off w h) (at_work n) (draw_trunk n) refl refl refl c0.shaken.truth;
-          turns = turns_aside n (λ r u z. CauseOf h w u.owner u.target z) (λ r u. Monitored r u.owner (Target.Pid u.held) h)
+          turns = turns_aside n (λ r u z. CauseOf h w u.owner u.target z) (λ r u. IsAsked (Called h) u.target u.owner r)
               (λ r u. Off w h r ⊎ (reaches n u.owner.node ≡ false)) (were w h x n hx gw g) (at_work n) o
-              (node_aside n (λ r u z. CauseOf h w u.owner u.target z) (λ r u. Monitored r u.owner (Target.Pid u.held) h)
+              (node_aside n (λ r u z. CauseOf h w u.owner u.target z) (λ r u. IsAsked (Called h) u.target u.owner r)
               (λ r u. Off w h r ⊎ (reaches n u.owner.node ≡ false)) (were w h x n hx gw g) (at_work n)
               (draw_trunk n) refl refl refl (λ p. refl) refl refl refl refl) c0.shaken.turns;
           home = record { local = c0.shaken.home.local; name = c0.shaken.home.name };
@@ -395,10 +425,7 @@ module _ (w : World) (h : History) (x : Name) (n : Node) (hx : node_of w.nodes x
           × (target_node v.1.target ≡ y) → CauseOf h w v.1.owner v.1.target noconnection
       tells y far v f =
           let u = g.watching x n v.0 v.1 hx f.0 in
-          let q = named_pid v.0 v.1.owner v.1.target h u.1 in
-          subst (λ z. CauseOf h w v.1.owner z noconnection) (sym q.1)
-          (no_connection w h x n hx gw g v.1.owner q.0
-          ((kn w h x n hx gw g).born v.1.owner u.4) (ap (reaches n) (ap target_node (sym q.1) ∙ f.1) ∙ far))
+          unreached_cause w h x n hx gw g v.1.owner v.1.target ((kn w h x n hx gw g).born v.1.owner u.4) (ap (reaches n) f.1 ∙ far)
 
   -- ---- an incarnation ends, and another begins
 
@@ -433,7 +460,8 @@ module _ (w : World) (h : History) (x : Name) (n : Node) (hx : node_of w.nodes x
         grows = λ p v. over_of m p (dead p) (nv p (over_parts n p v).1);
         carries = record {
           local = All-weaker (IsFounded w h) _
-              (founded_by _ _ _ _ _ _ (λ q z c. inl c) (λ p q r c. inr c) (λ r c. inl c)) m.local fs;
+              (founded_by _ _ (Called h) (CalledNow h e a (at_work m)) (Off w h) (OffAfter w h n (at_work m))
+              (λ q z c. inl c) (λ p q r c. inr c) (λ r c. inl c)) m.local fs;
           sent = All-nil _;
         };
         homes = ts;

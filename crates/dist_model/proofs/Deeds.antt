@@ -10,7 +10,7 @@ use Rattle.std.specs.List.{All}
 use Rattle.std.specs.Option.{is_some}
 use Rattle.std.specs.FinMap as fm
 use Rattle.dist_model.proofs.SideAges.{Aging, ageless, aging_side}
-use Rattle.dist_model.proofs.Founded.{FoundedSignal, True, carried_by, founded_by, old_now, true_closed, true_side, true_wrote}
+use Rattle.dist_model.proofs.Founded.{FoundedSignal, IsAsked, IsOver, OffNow, True, carried_by, founded_by, old_now, true_closed, true_side, true_wrote}
 use Rattle.dist_model.proofs.HandshakeParts.{Turned}
 use Rattle.dist_model.proofs.Home.{never_own}
 use Rattle.dist_model.proofs.HomeMonitors.{Homed, Says, TargetsIn, home_closed, home_side, home_wrote, targets_by}
@@ -19,11 +19,11 @@ use Rattle.dist_model.proofs.Posts.{NodeKept}
 use Rattle.dist_model.proofs.Parts.{Closed, Rules}
 use Rattle.dist_model.proofs.Routes.{node_of_name}
 use Rattle.dist_model.proofs.Trunks.{Good}
-use Rattle.dist_model.proofs.Told.{Called, CauseOf, Course, Deed, Downs, Drawn, IsFounded, Leaves, Off, Old, Sound, Stays}
+use Rattle.dist_model.proofs.Told.{Called, CalledNow, Course, Deed, Downs, Drawn, IsFounded, Leaves, Off, OffAfter, Old, Sound, Stays}
 use Rattle.dist_model.proofs.MonitorMoves.{Core, Fate, Left, Same, Spent, Turns, core_closed, turns_side, turns_wrote}
 use Rattle.dist_model.proofs.Views.{over}
 use Rattle.dist_model.proofs.Truths.{none_within}
-use Rattle.dist_model.specs.Causes.{HadEnded, NoConnection, NoProcess, TrueCause}
+use Rattle.dist_model.specs.Causes.{CauseOf, HadEnded, HolderEnded, NoConnection, Nobody, NoProcess, TrueCause, Unreached}
 use Rattle.dist_model.specs.declared.report.Answer.{Answer}
 use Rattle.dist_model.specs.declared.command.Command.{Command}
 use Rattle.dist_model.specs.Downs.{Monitored, downs_by, downs_in, is_answered, is_demonitored, takes_message}
@@ -34,6 +34,7 @@ use Rattle.dist_model.specs.Names.{Name, same_name}
 use Rattle.dist_model.specs.Node.{Node, end_of, living, is_stranger, reaches, route}
 use Rattle.dist_model.specs.Seen.{end_between, is_reached}
 use Rattle.dist_model.specs.Sides.{TrunkSide}
+use Rattle.monitor_core.specs.Monitors.{target_node}
 use Rattle.dist_model.specs.Work.{Work, at_work}
 use Rattle.dist_model.specs.declared.report.Effect.{Effect}
 use Rattle.dist_model.specs.World.{Call, Event, Reported, World, node_of}
@@ -85,6 +86,13 @@ pub old_cause : (w : World) (h : History) (p q : Pid) (z : Data) → Old w h q z
 old_cause w h p q z (inl i) = HadEnded i
 old_cause w h p q z (inr i) = let d = i.1 in NoProcess i.0 (ap (λ o. living_at o q) d.1 ∙ (over_parts d.0 q d.2).0)
 
+-- so of a target whose end is told
+pub cause_over : (w : World) (h : History) (p : Pid) (t : Target) (z : Data) → IsOver (Old w h) t z → CauseOf h w p t z
+cause_over w h p (Target.Pid q) z c = old_cause w h p q z c
+cause_over w h p (Target.Name name node) z (inl e) = Nobody e
+cause_over w h p (Target.Name name node) z (inr (q, inl c)) = HolderEnded q c
+cause_over w h p (Target.Name name node) z (inr (q, inr c)) = Nobody c.0
+
 module _ (w : World) (h : History) (x : Name) (n : Node) (hx : node_of w.nodes x ≡ Some n) (gw : Good w) (g : Sound w h) where
   pub nm : n.mint.name ≡ x
   nm = node_of_name w.nodes x n hx
@@ -108,6 +116,11 @@ module _ (w : World) (h : History) (x : Name) (n : Node) (hx : node_of w.nodes x
   pub no_connection : (p q : Pid) → is_stranger n p ≡ false → reaches n q.node ≡ false → TrueCause h w p q noconnection
   no_connection p q v r = let u = unreached p q.node v r in NoConnection refl u.0 u.1
 
+  -- of either target
+  pub unreached_cause : (p : Pid) (t : Target) → is_stranger n p ≡ false → reaches n (target_node t) ≡ false → CauseOf h w p t noconnection
+  unreached_cause p (Target.Pid q) v r = no_connection p q v r
+  unreached_cause p (Target.Name name node) v r = let u = unreached p node v r in Unreached refl u.0 u.1
+
   pub dead_now : (p : Pid) → living n p ≡ false → is_stranger n p ≡ false → Old w h p noproc
   dead_now p l v = inr (refl, (n, node_here p v, over_of n p l v))
 
@@ -123,7 +136,7 @@ module _ (w : World) (h : History) (x : Name) (n : Node) (hx : node_of w.nodes x
     Tells k u z = CauseOf h w u.owner u.target z
 
     abbrev pub Joins : Reference → Registration → Type 0
-    Joins k u = Monitored k u.owner (Target.Pid u.held) h
+    Joins k u = IsAsked (Called h) u.target u.owner k
 
     abbrev pub Drops : Reference → Registration → Type 0
     Drops k u = Off w h k ⊎ (reaches n u.owner.node ≡ false)
@@ -255,7 +268,10 @@ module _ (w : World) (h : History) (x : Name) (n : Node) (hx : node_of w.nodes x
       name = u.name ∙ nm;
       nevers = λ p v. nv p ∙ v;
       grows = older;
-      carries = carried_by _ _ o (founded_by _ _ _ _ _ _ (λ q z c. c) (λ p q r m. inr m) (λ r c. c)) t.carried;
+      carries = carried_by _ _ o
+          (founded_by _ _ (Called h) (CalledNow h e a o)
+          (OffNow (record n { local = xs }) (Old w h) (Right w h e) (Called h) (Off w h) o) (OffAfter w h n o)
+          (λ q z c. c) (λ p q r m. inr m) (λ r c. c)) t.carried;
       homes = All-weaker (TargetsIn Spawned) (TargetsIn (λ q. is_stranger o.node q ≡ false))
           (targets_by Spawned (λ q. is_stranger o.node q ≡ false) (λ q v. nv q ∙ v)) o.node.local k.local;
       enrolled = λ r m j. let v = u.enrolled r m j in (v.0, joins r m v.2, v.1);
@@ -270,7 +286,7 @@ module _ (w : World) (h : History) (x : Name) (n : Node) (hx : node_of w.nodes x
         older : (p : Pid) → over n p ≡ true → over o.node p ≡ true
         older p v = let b = over_parts n p v in over_of o.node p (u.dead p b.0) (nv p ∙ b.1)
 
-        joins : (r : Reference) (m : Registration) → (fm.get n.registered r ≡ Some m) ⊎ Joins r m → Monitored r m.owner (Target.Pid m.held) h
+        joins : (r : Reference) (m : Registration) → (fm.get n.registered r ≡ Some m) ⊎ Joins r m → Joins r m
         joins r m (inl j) = (g.enrolled x n r m hx j).1
         joins r m (inr j) = j
 

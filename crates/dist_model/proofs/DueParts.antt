@@ -1,12 +1,12 @@
 -- What stands first in a list is due: what a node sends but for the handshake is signals.
 use Rattle.erl_names.specs.Draw as kind
-use Rattle.std.proofs.Common.{◌≡◌, Bool, true, false, cond, List, [], ◌∷◌, ◌++◌, refl, sym, ap, subst, ◌∙◌, Option, Some, None, ◌&&◌}
+use Rattle.std.proofs.Common.{ℕ, ◌≡◌, Bool, true, false, cond, List, [], ◌∷◌, ◌++◌, refl, sym, ap, subst, ◌∙◌, Option, Some, None, ◌&&◌}
 use Rattle.std.specs.FinMap as fm
 use Rattle.dist_model.proofs.Calls.{IfGoes, if_cond, if_drawn, if_not}
 use Rattle.dist_model.proofs.DueMoves.{AllWords, Sent, words-push}
 use Rattle.dist_model.proofs.Founded.{posts_keep}
 use Rattle.dist_model.proofs.Posts.{AllRouted, post_routed}
-use Rattle.dist_model.proofs.Parts.{Closed, Rules, call_kept, item_kept, link_swept}
+use Rattle.dist_model.proofs.Parts.{Apart, Closed, Rules, call_kept, item_kept, link_swept}
 use Rattle.dist_model.proofs.Entries.{registered_found, watch_found}
 use Rattle.dist_model.proofs.Records.{sweep_link}
 use Rattle.dist_model.proofs.Envelopes.{outgoing, sent_by, sent_in, sent_in-push, sent_in-silent}
@@ -19,9 +19,9 @@ use Rattle.dist_model.specs.declared.command.Command.{Command}
 use Rattle.dist_model.specs.declared.report.Answer.{Answer}
 use Rattle.dist_model.specs.Exits.{demonitors, exits, end_process, monitor_exits}
 use Rattle.dist_model.specs.Items.{Item}
-use Rattle.dist_model.specs.Monitoring.{demonitor_by, pid_watch, unwatch, watch}
+use Rattle.dist_model.specs.Monitoring.{demonitor_by, monitor, unwatch, watch}
 use Rattle.dist_model.specs.Names.{Name, same_name, same_pid}
-use Rattle.dist_model.specs.Node.{Node, living, is_stranger, reaches, route, ends_of}
+use Rattle.dist_model.specs.Node.{Node, living, is_stranger, monitors_names, reaches, route, ends_of}
 use Rattle.dist_model.specs.Taking.{take_item}
 use Rattle.dist_model.specs.Work.{Addressed, Work, at_work, draw, keep_local, post, post_all, put, report, send_on, spelled, to_pid}
 use Rattle.erl_control.specs.declared.signal.Signal.{Signal}
@@ -32,8 +32,10 @@ use Rattle.erl_term.specs.declared.refusal.Refusal.{Refusal}
 use Rattle.erl_term.specs.declared.term.Pid.{Pid}
 use Rattle.erl_term.specs.declared.term.Reference.{Reference}
 use Rattle.erl_names.specs.Ids.{reference_of}
+use Rattle.monitor_core.specs.Monitors.{target_node, watch_of}
+use Rattle.monitor_core.specs.declared.monitor.Target.{Target}
 use Rattle.monitor_core.specs.declared.monitor.Watch.{Watch}
-use Rattle.dist_model.specs.Telling.{object, taken_back}
+use Rattle.dist_model.specs.Telling.{asked, object, taken_back}
 
 module _ (n : Node) where
   pub sent_post : (s : Addressed) (o : Work) → Sent n o → Sent n (post s o)
@@ -109,10 +111,15 @@ module _ (n : Node) where
     gone = λ p q pay e l. tt;
     acts = λ p q x pay e l a. tt;
     sent = λ p m pay e. silent o (put p m o) (Effect.Put p m) refl refl refl refl k;
+    named = λ q p name m pay e. silent o (put p m o) (Effect.Put p m) refl refl refl refl k;
     nobody = λ p q r pay e l. tt;
+    nobody_named = λ p name r pay e. tt;
     joins = λ p q r pay e l. tt;
+    joins_named = λ p name r pay q e l. tt;
     drops = λ p q r pay m e h s. tt;
+    drops_named = λ p name r pay m e h s. tt;
     tells = λ p q r x pay e h. tt;
+    tells_named = λ p name r x pay e h. tt;
   }) k
 
   pub sent_start : Sent n (at_work n)
@@ -121,38 +128,43 @@ module _ (n : Node) where
   unwatched : (r : Reference) → Sent n (unwatch r (at_work n))
   unwatched r = record { sides = refl; name = refl; routed = tt; words = tt }
 
-  undone : (v : Watch) (p : Pid) (r : Reference) → Sent n (post_all (taken_back p v.target r) (unwatch r (at_work n)))
-  undone v p r = sent_all (taken_back p v.target r) (unwatch r (at_work n)) (unwatched r)
+  undone : (v : Watch) (p : Pid) (r : Reference) → Sent n (post (taken_back p v.target r) (unwatch r (at_work n)))
+  undone v p r = sent_post (taken_back p v.target r) (unwatch r (at_work n)) (unwatched r)
 
   demonitored : (v : Option Watch) (p : Pid) (r : Reference) → IfGoes (demonitor_by v p r (at_work n)) (Sent n)
   demonitored None p r = tt
   demonitored (Some v) p r = go (same_pid v.owner p)
     where
-      go : (b : Bool) → IfGoes (cond b (Accepts Answer.Done (post_all (taken_back p v.target r) (unwatch r (at_work n))))
+      go : (b : Bool) → IfGoes (cond b (Accepts Answer.Done (post (taken_back p v.target r) (unwatch r (at_work n))))
           (Refuses Refusal.NotTheOwner)) (Sent n)
       go true = undone v p r
       go false = tt
 
-  apart : (c : Command) → ((p q : Pid) → c ≡ Command.Monitor p q → ⊥) → ((p : Pid) (r : Reference) → c ≡ Command.Demonitor p r → ⊥)
-      → IfGoes (call n c) (Sent n)
-  apart c a b = call_kept all_rules (Sent n) sent_closed n sent_start c (a, b)
+  apart : (c : Command) → Apart c → IfGoes (call n c) (Sent n)
+  apart c a = call_kept all_rules (Sent n) sent_closed n sent_start c a
       (λ id e h. record { sides = refl; name = refl; routed = tt; words = tt }) (λ p q e l r. tt)
 
   either : (b : Bool) (p q : Work) → Sent n p → Sent n q → Sent n (cond b p q)
   either true p q h k = h
   either false p q h k = k
 
+  monitored : (p : Pid) (t : Target) (count : ℕ)
+      → Sent n (monitor (reference_of n.mint count) p t (draw kind.Reference (at_work n)))
+  monitored p t count = either (reaches n (target_node t)) _ _ (sent_post (asked p t (reference_of n.mint count))
+      (watch (reference_of n.mint count) (watch_of p t) (draw kind.Reference (at_work n)))
+      (record { sides = refl; name = refl; routed = tt; words = tt }))
+      (record { sides = refl; name = refl; routed = tt; words = tt })
+
   -- a call
   pub sent_call : (c : Command) → IfGoes (call n c) (Sent n)
   sent_call (Command.Monitor p q) = if_cond (living n p) _ Refusal.NoSuchProcess (Sent n)
       (λ l. if_not (same_name q.node n.mint.name && is_stranger n q) _ Refusal.Forged (Sent n)
-      (if_drawn (id_of n.mint kind.Reference) _ (Sent n) (λ count h.
-      either (reaches n q.node) _ _ (sent_post (to_pid q (Signal.Monitor p q (reference_of n.mint count)))
-      (watch (reference_of n.mint count) (pid_watch p q) (draw kind.Reference (at_work n)))
-      (record { sides = refl; name = refl; routed = tt; words = tt }))
-      (record { sides = refl; name = refl; routed = tt; words = tt }))))
+      (if_drawn (id_of n.mint kind.Reference) _ (Sent n) (λ count h. monitored p (Target.Pid q) count)))
+  sent_call (Command.MonitorName p y name) = if_cond (living n p) _ Refusal.NoSuchProcess (Sent n)
+      (λ l. if_cond (monitors_names n y) _ Refusal.NotOffered (Sent n)
+      (λ f. if_drawn (id_of n.mint kind.Reference) _ (Sent n) (λ count h. monitored p (Target.Name name y) count)))
   sent_call (Command.Demonitor p r) = if_cond (living n p) _ Refusal.NoSuchProcess (Sent n) (λ l. demonitored (fm.get n.watches r) p r)
-  sent_call c = apart c (λ a b e. cc) (λ a b e. cc)
+  sent_call c = apart c ((λ a b e. cc), (λ a b e. cc), (λ a b d e. cc))
 
   -- a record is swept
   pub sent_sweep : (y : Name) → Sent n (sweep_link (link_to y (fm.entries n.ends)) y (at_work n))

@@ -124,48 +124,48 @@ exits_other p q x r (e ∷ es) h =
 
 -- by whichever target
 posted_told : (p q : Pid) (t : Target) (o : Pid) (k : Reference) (r : Data) (l : List Addressed) → posted p q l ≡ []
-    → posted p q (told_end t o k r ++ l) ≡ []
+    → posted p q (told_end t o k r ∷ l) ≡ []
 posted_told p q (Target.Pid z) o k r l h = h
 posted_told p q (Target.Name n m) o k r l h = h
 
-posted_back : (p q x : Pid) (t : Target) (k : Reference) (l : List Addressed) → posted p q l ≡ [] → posted p q (taken_back x t k ++ l) ≡ []
+posted_back : (p q x : Pid) (t : Target) (k : Reference) (l : List Addressed) → posted p q l ≡ [] → posted p q (taken_back x t k ∷ l) ≡ []
 posted_back p q x (Target.Pid z) k l h = h
 posted_back p q x (Target.Name n m) k l h = h
 
 suits_told : (p q : Pid) (t : Target) (o : Pid) (k : Reference) (r : Data) (l : List Addressed) → AllSuit p q l
-    → AllSuit p q (told_end t o k r ++ l)
+    → AllSuit p q (told_end t o k r ∷ l)
 suits_told p q (Target.Pid z) o k r l h = (inr refl, h)
-suits_told p q (Target.Name n m) o k r l h = h
+suits_told p q (Target.Name n m) o k r l h = (inr refl, h)
 
-suits_back : (p q x : Pid) (t : Target) (k : Reference) (l : List Addressed) → AllSuit p q l → AllSuit p q (taken_back x t k ++ l)
+suits_back : (p q x : Pid) (t : Target) (k : Reference) (l : List Addressed) → AllSuit p q l → AllSuit p q (taken_back x t k ∷ l)
 suits_back p q x (Target.Pid z) k l h = (inr refl, h)
-suits_back p q x (Target.Name n m) k l h = h
+suits_back p q x (Target.Name n m) k l h = (inr refl, h)
 
 posted_downs : (p q x : Pid) (r : Data) (es : List (Reference × Registration)) → posted p q (monitor_exits x r es) ≡ []
 posted_downs p q x r [] = refl
 posted_downs p q x r (e ∷ es) =
     elim (same_pid e.1.held x) as
-    (λ b. posted p q (cond b (told_end e.1.target e.1.owner e.0 r) [] ++ monitor_exits x r es) ≡ [])
+    (λ b. posted p q (cond b (told_end e.1.target e.1.owner e.0 r ∷ []) [] ++ monitor_exits x r es) ≡ [])
     [ true ↦ posted_told p q e.1.target e.1.owner e.0 r (monitor_exits x r es) (posted_downs p q x r es) | false ↦ posted_downs p q x r es ]
 
 posted_unwatches : (p q x : Pid) (es : List (Reference × Watch)) → posted p q (demonitors x es) ≡ []
 posted_unwatches p q x [] = refl
 posted_unwatches p q x (e ∷ es) =
     elim (same_pid e.1.owner x) as
-    (λ b. posted p q (cond b (taken_back x e.1.target e.0) [] ++ demonitors x es) ≡ [])
+    (λ b. posted p q (cond b (taken_back x e.1.target e.0 ∷ []) [] ++ demonitors x es) ≡ [])
     [ true ↦ posted_back p q x e.1.target e.0 (demonitors x es) (posted_unwatches p q x es) | false ↦ posted_unwatches p q x es ]
 
 suits_downs : (p q x : Pid) (r : Data) (es : List (Reference × Registration)) → AllSuit p q (monitor_exits x r es)
 suits_downs p q x r [] = tt
 suits_downs p q x r (e ∷ es) =
     elim (same_pid e.1.held x) as
-    (λ b. AllSuit p q (cond b (told_end e.1.target e.1.owner e.0 r) [] ++ monitor_exits x r es))
+    (λ b. AllSuit p q (cond b (told_end e.1.target e.1.owner e.0 r ∷ []) [] ++ monitor_exits x r es))
     [ true ↦ suits_told p q e.1.target e.1.owner e.0 r (monitor_exits x r es) (suits_downs p q x r es) | false ↦ suits_downs p q x r es ]
 
 suits_unwatches : (p q x : Pid) (es : List (Reference × Watch)) → AllSuit p q (demonitors x es)
 suits_unwatches p q x [] = tt
 suits_unwatches p q x (e ∷ es) =
-    elim (same_pid e.1.owner x) as (λ b. AllSuit p q (cond b (taken_back x e.1.target e.0) [] ++ demonitors x es))
+    elim (same_pid e.1.owner x) as (λ b. AllSuit p q (cond b (taken_back x e.1.target e.0 ∷ []) [] ++ demonitors x es))
     [ true ↦ suits_back p q x e.1.target e.0 (demonitors x es) (suits_unwatches p q x es) | false ↦ suits_unwatches p q x es ]
 
 suits_exit : (p q x y : Pid) (r : Data) (e : End) → AllSuit p q (exit_for x r y e)

@@ -15,6 +15,7 @@ use Rattle.sorted_map.proofs.Orderings.{equal_of}
 use Rattle.dist_model.specs.Downs.{same_reference}
 use Rattle.dist_model.specs.Losses.{registered_by, watch_to}
 use Rattle.dist_model.specs.Names.{Name, same_name}
+use Rattle.erl_term.specs.declared.term.Pid.{Pid}
 use Rattle.erl_term.specs.declared.term.Reference.{Reference}
 use Rattle.erl_term.proofs.Order.{reference_cmp_exact, reference_cmp_total}
 use Rattle.monitor_core.specs.Monitors.{MonitorMap, RegistrationMap, WatchMap, target_node}
@@ -95,6 +96,10 @@ pub none_by : {X : Type 0} (v w : Option X) → ((m : X) → w ≡ Some m → v 
 none_by v None f h = refl
 none_by v (Some m) f h = absurd (none-some m (sym h ∙ f m refl))
 
--- a registration of a pid is bound to it, and there is none of another kind
+-- a registration of a pid is bound to it. That of a name is bound to any process
+abbrev pub IsBoundAs : Target → Pid → Type 0
+IsBoundAs (Target.Pid q) p = q ≡ p
+IsBoundAs (Target.Name name node) p = Unit {0}
+
 abbrev pub IsBound : Registration → Type 0
-IsBound m = m.target ≡ Target.Pid m.held
+IsBound m = IsBoundAs m.target m.held

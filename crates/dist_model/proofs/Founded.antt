@@ -9,7 +9,7 @@ use Rattle.std.proofs.lemmas.Option.{same_Some, none-some}
 use Rattle.std.specs.List.{All}
 use Rattle.std.specs.FinMap as fm
 use Rattle.dist_model.proofs.Envelopes.{Envelope, outgoing, sent_in-push, sent_in-silent}
-use Rattle.dist_model.proofs.Entries.{IsBound, each_entry, none_by, same_reference_true}
+use Rattle.dist_model.proofs.Entries.{IsBound, IsBoundAs, each_entry, none_by, same_reference_true}
 use Rattle.dist_model.proofs.HandshakeParts.{Turned}
 use Rattle.dist_model.proofs.Keys.{same_pid_true, same_trunk}
 use Rattle.dist_model.proofs.Parts.{Closed, Rules, is_plain}
@@ -31,6 +31,7 @@ use Rattle.erl_term.specs.Data.{Data}
 use Rattle.erl_term.specs.declared.term.Pid.{Pid}
 use Rattle.erl_term.specs.declared.term.Reference.{Reference}
 use Rattle.exit_core.specs.Messages.{down_term}
+use Rattle.link_core.specs.News.{noproc}
 use Rattle.link_core.specs.declared.end.End.{End}
 use Rattle.erl_term.proofs.Order.{reference_cmp_exact, reference_cmp_total}
 use Rattle.monitor_core.specs.Monitors.{MonitorMap, RegistrationMap, WatchMap, added}
@@ -39,37 +40,92 @@ use Rattle.std.specs.FinMap.{FinMap}
 use Rattle.monitor_core.specs.declared.monitor.Target.{Target}
 use Rattle.monitor_core.specs.declared.monitor.Watch.{Watch}
 use Rattle.monitor_core.specs.declared.monitor.Registration.{Registration}
-use Rattle.dist_model.specs.Telling.{object, taken_back, told_end}
+use Rattle.dist_model.specs.Telling.{demonitor_signal, monitor_exit_signal, monitor_signal, object, taken_back, told_end}
 
--- by whose ends, by which calls of Monitor, and by which monitors that ended
-abbrev pub FoundedSignal : (Pid → Data → Type 0) → (Pid → Pid → Reference → Type 0) → (Reference → Type 0) → Signal → Type 0
+-- a call by which p monitors a target, but for the node of a name, which no signal tells
+abbrev pub IsAsked : (Pid → Target → Reference → Type 0) → Target → Pid → Reference → Type 0
+IsAsked C (Target.Pid q) p r = C p (Target.Pid q) r
+IsAsked C (Target.Name name node) p r = (other : Name) × C p (Target.Name name other) r
+
+pub asked_by : (C D : Pid → Target → Reference → Type 0) → ((p : Pid) (t : Target) (r : Reference) → C p t r → D p t r)
+    → (t : Target) (p : Pid) (r : Reference) → IsAsked C t p r → IsAsked D t p r
+asked_by C D f (Target.Pid q) p r h = f p (Target.Pid q) r h
+asked_by C D f (Target.Name name node) p r h = (h.0, f p (Target.Name name h.0) r h.1)
+
+-- why the end of a target may be told
+abbrev pub IsOver : (Pid → Data → Type 0) → Target → Data → Type 0
+IsOver E (Target.Pid q) x = E q x
+IsOver E (Target.Name name node) x = (x ≡ noproc) ⊎ ((q : Pid) × E q x)
+
+pub over_by : (E F : Pid → Data → Type 0) → ((q : Pid) (x : Data) → E q x → F q x) → (t : Target) (x : Data) → IsOver E t x → IsOver F t x
+over_by E F f (Target.Pid q) x h = f q x h
+over_by E F f (Target.Name name node) x (inl h) = inl h
+over_by E F f (Target.Name name node) x (inr h) = inr (h.0, f h.0 x h.1)
+
+-- the target that a signal names. No signal tells the node of a name
+abbrev pub named_by : Name → Target
+named_by name = Target.Name name []
+
+-- by whose ends, by which calls of Monitor and MonitorName, and by which monitors that ended
+abbrev pub FoundedSignal : (Pid → Data → Type 0) → (Pid → Target → Reference → Type 0) → (Reference → Type 0) → Signal → Type 0
 FoundedSignal E C O (Signal.Exit p q x) = E p x
-FoundedSignal E C O (Signal.Monitor p q r) = C p q r
+FoundedSignal E C O (Signal.Monitor p q r) = C p (Target.Pid q) r
+FoundedSignal E C O (Signal.MonitorName p name r) = IsAsked C (named_by name) p r
 FoundedSignal E C O (Signal.Demonitor p q r) = O r
-FoundedSignal E C O (Signal.MonitorExit q p r x) = E q x × C p q r
+FoundedSignal E C O (Signal.DemonitorName p name r) = O r
+FoundedSignal E C O (Signal.MonitorExit q p r x) = E q x × C p (Target.Pid q) r
+FoundedSignal E C O (Signal.MonitorNameExit name p r x) = IsOver E (named_by name) x × IsAsked C (named_by name) p r
 FoundedSignal E C O _ = Unit {0}
 
-abbrev pub Founded : (Pid → Data → Type 0) → (Pid → Pid → Reference → Type 0) → (Reference → Type 0) → Item → Type 0
+abbrev pub Founded : (Pid → Data → Type 0) → (Pid → Target → Reference → Type 0) → (Reference → Type 0) → Item → Type 0
 Founded E C O (Signalled s pay) = FoundedSignal E C O s
 Founded E C O _ = Unit {0}
 
-pub founded_by : (E F : Pid → Data → Type 0) (C D : Pid → Pid → Reference → Type 0) (O P : Reference → Type 0)
-    → ((q : Pid) (x : Data) → E q x → F q x) → ((p q : Pid) (r : Reference) → C p q r → D p q r)
+pub founded_by : (E F : Pid → Data → Type 0) (C D : Pid → Target → Reference → Type 0) (O P : Reference → Type 0)
+    → ((q : Pid) (x : Data) → E q x → F q x) → ((p : Pid) (t : Target) (r : Reference) → C p t r → D p t r)
     → ((r : Reference) → O r → P r)
     → (i : Item) → Founded E C O i → Founded F D P i
 founded_by E F C D O P e c o (Signalled (Signal.Exit p q x) pay) h = e p x h
-founded_by E F C D O P e c o (Signalled (Signal.Monitor p q r) pay) h = c p q r h
+founded_by E F C D O P e c o (Signalled (Signal.Monitor p q r) pay) h = c p (Target.Pid q) r h
+founded_by E F C D O P e c o (Signalled (Signal.MonitorName p name r) pay) h = asked_by C D c (named_by name) p r h
 founded_by E F C D O P e c o (Signalled (Signal.Demonitor p q r) pay) h = o r h
-founded_by E F C D O P e c o (Signalled (Signal.MonitorExit q p r x) pay) h = (e q x h.0, c p q r h.1)
+founded_by E F C D O P e c o (Signalled (Signal.DemonitorName p name r) pay) h = o r h
+founded_by E F C D O P e c o (Signalled (Signal.MonitorExit q p r x) pay) h = (e q x h.0, c p (Target.Pid q) r h.1)
+founded_by E F C D O P e c o (Signalled (Signal.MonitorNameExit name p r x) pay) h =
+    (over_by E F e (named_by name) x h.0, asked_by C D c (named_by name) p r h.1)
 founded_by E F C D O P e c o _ h = tt
 
-plain_founded : (E : Pid → Data → Type 0) (C : Pid → Pid → Reference → Type 0) (O : Reference → Type 0) (s : Signal)
+plain_founded : (E : Pid → Data → Type 0) (C : Pid → Target → Reference → Type 0) (O : Reference → Type 0) (s : Signal)
     → is_plain s ≡ true → FoundedSignal E C O s
 plain_founded E C O (Signal.Exit p q x) h = cc
 plain_founded E C O (Signal.Monitor p q r) h = cc
+plain_founded E C O (Signal.MonitorName p name r) h = cc
 plain_founded E C O (Signal.Demonitor p q r) h = cc
+plain_founded E C O (Signal.DemonitorName p name r) h = cc
 plain_founded E C O (Signal.MonitorExit q p r x) h = cc
+plain_founded E C O (Signal.MonitorNameExit name p r x) h = cc
 plain_founded E C O _ h = tt
+
+-- the signals about a monitor
+pub asked_founded : (E : Pid → Data → Type 0) (C : Pid → Target → Reference → Type 0) (O : Reference → Type 0) (p : Pid) (t : Target)
+    (r : Reference) → C p t r → FoundedSignal E C O (monitor_signal p t r)
+asked_founded E C O p (Target.Pid q) r h = h
+asked_founded E C O p (Target.Name name node) r h = (node, h)
+
+pub told_founded : (E : Pid → Data → Type 0) (C : Pid → Target → Reference → Type 0) (O : Reference → Type 0) (t : Target) (p : Pid)
+    (r : Reference) (x : Data) → IsOver E t x → IsAsked C t p r → FoundedSignal E C O (monitor_exit_signal t p r x)
+told_founded E C O (Target.Pid q) p r x h k = (h, k)
+told_founded E C O (Target.Name name node) p r x h k = (h, k)
+
+pub back_founded : (E : Pid → Data → Type 0) (C : Pid → Target → Reference → Type 0) (O : Reference → Type 0) (p : Pid) (t : Target)
+    (r : Reference) → O r → FoundedSignal E C O (demonitor_signal p t r)
+back_founded E C O p (Target.Pid q) r h = h
+back_founded E C O p (Target.Name name node) r h = h
+
+-- a process that ends is over, and so is what is bound to it
+pub bound_over : (E : Pid → Data → Type 0) (t : Target) (p : Pid) (x : Data) → IsBoundAs t p → E p x → IsOver E t x
+bound_over E (Target.Pid q) p x b h = subst (λ z. E z x) (sym b) h
+bound_over E (Target.Name name node) p x b h = inr (p, h)
 
 -- what is posted
 pub record Carried (P : Item → Type 0) (o : Work) : Type 0 where
@@ -231,7 +287,7 @@ added_some w k v r m h = go (fm.contains_key w k) h
     go true j = inl j
     go false j = pick (same_reference r k) refl (sym (fm.get-insert reference_cmp_total w k v r) ∙ j)
 
-module _ (n : Node) (Old : Pid → Data → Type 0) (Ok : Pid → Pid → Data → Type 0) (Call : Pid → Pid → Reference → Type 0)
+module _ (n : Node) (Old : Pid → Data → Type 0) (Ok : Pid → Pid → Data → Type 0) (Call : Pid → Target → Reference → Type 0)
     (Off : Reference → Type 0) where
   -- it had ended before, or ended in this event
   abbrev pub EndedBefore : Work → Pid → Data → Type 0
@@ -248,12 +304,12 @@ module _ (n : Node) (Old : Pid → Data → Type 0) (Ok : Pid → Pid → Data �
     pub carried : Carried (FoundedIn o) o
     pub acts : (p q : Pid) (x : Data) → Contains o.effects (Effect.LinkExit p q x) → Ok p q x
     pub watched : (r : Reference) (m : Watch) → fm.get o.node.watches r ≡ Some m → fm.get n.watches r ≡ Some m
-    pub enrolled : (r : Reference) (m : Registration) → fm.get o.node.registered r ≡ Some m → Call m.owner m.held r × IsBound m
+    pub enrolled : (r : Reference) (m : Registration) → fm.get o.node.registered r ≡ Some m → IsAsked Call m.target m.owner r × IsBound m
 
   widen : (o o' : Work) → ((f : Effect Item) → Contains o.effects f → Contains o'.effects f)
       → ((r : Reference) (m : Watch) → fm.get o'.node.watches r ≡ Some m → fm.get o.node.watches r ≡ Some m) → (i : Item)
       → FoundedIn o i → FoundedIn o' i
-  widen o o' f w = founded_by (EndedBefore o) (EndedBefore o') Call Call (OffNow o) (OffNow o') ends (λ p q r c. c) offs
+  widen o o' f w = founded_by (EndedBefore o) (EndedBefore o') Call Call (OffNow o) (OffNow o') ends (λ p t r c. c) offs
     where
       ends : (q : Pid) (x : Data) → EndedBefore o q x → EndedBefore o' q x
       ends q x (inl h) = inl h
@@ -268,7 +324,8 @@ module _ (n : Node) (Old : Pid → Data → Type 0) (Ok : Pid → Pid → Data �
       → ((f : Effect Item) → Contains o.effects f → Contains o'.effects f)
       → ((p q : Pid) (x : Data) → Contains o'.effects (Effect.LinkExit p q x) → Ok p q x)
       → ((r : Reference) (m : Watch) → fm.get o'.node.watches r ≡ Some m → fm.get o.node.watches r ≡ Some m)
-      → ((r : Reference) (m : Registration) → fm.get o'.node.registered r ≡ Some m → Call m.owner m.held r × IsBound m) → True o → True o'
+      → ((r : Reference) (m : Registration) → fm.get o'.node.registered r ≡ Some m → IsAsked Call m.target m.owner r × IsBound m)
+      → True o → True o'
   true_more o o' l s f a w e k = let c = carried_by (FoundedIn o) (FoundedIn o') o (widen o o' f w) k.carried in record {
     carried = record {
       local = subst (λ z. All (FoundedIn o') z) (sym l) c.local;
@@ -331,7 +388,7 @@ module _ (n : Node) (Old : Pid → Data → Type 0) (Ok : Pid → Pid → Data �
       true_posts (s ∷ []) o (All-cons (λ z. FoundedIn o (Signalled z.signal false)) s [] h (All-nil (λ z. FoundedIn o (Signalled z.signal false)))) k
 
   pub old_now : (o : Work) (i : Item) → Founded Old Call Off i → FoundedIn o i
-  old_now o = founded_by Old (EndedBefore o) Call Call Off (OffNow o) (λ q x h. inl h) (λ p q r h. h) (λ r h. inl h)
+  old_now o = founded_by Old (EndedBefore o) Call Call Off (OffNow o) (λ q x h. inl h) (λ p t r h. h) (λ r h. inl h)
 
   -- a process ends
   module _ (p : Pid) (x : Data) (o : Work) (k : True o) where
@@ -360,20 +417,22 @@ module _ (n : Node) (Old : Pid → Data → Type 0) (Ok : Pid → Pid → Data �
         → All Good (monitor_exits p x es)
     monitor_exits_good [] h = none
     monitor_exits_good (e ∷ es) h =
-        All-append Good (cond (same_pid e.1.held p) (told_end e.1.target e.1.owner e.0 x) []) (monitor_exits p x es)
+        All-append Good (cond (same_pid e.1.held p) (told_end e.1.target e.1.owner e.0 x ∷ []) []) (monitor_exits p x es)
         (go (same_pid e.1.held p) refl)
         (monitor_exits_good es (All-tail (λ d. fm.get o.node.registered d.0 ≡ Some d.1) e es h))
       where
-        known : Call e.1.owner e.1.held e.0 × IsBound e.1
+        known : IsAsked Call e.1.target e.1.owner e.0 × IsBound e.1
         known = k.enrolled e.0 e.1 (All-head (λ d. fm.get o.node.registered d.0 ≡ Some d.1) e es h)
 
-        go : (b : Bool) → same_pid e.1.held p ≡ b → All Good (cond b (told_end e.1.target e.1.owner e.0 x) [])
-        go true i =
-            subst (λ z. All Good (told_end z e.1.owner e.0 x)) (sym known.1)
-            (All-cons Good (to_pid e.1.owner (Signal.MonitorExit e.1.held e.1.owner e.0 x)) [] (
-              subst (λ z. EndedBefore (end_process p x o) z x) (sym (same_pid_true e.1.held p i)) why,
-              known.0,
-            ) none)
+        E : Pid → Data → Type 0
+        E = EndedBefore (end_process p x o)
+
+        ended : same_pid e.1.held p ≡ true → IsOver E e.1.target x
+        ended i = bound_over E e.1.target e.1.held x known.1 (subst (λ z. E z x) (sym (same_pid_true e.1.held p i)) why)
+
+        go : (b : Bool) → same_pid e.1.held p ≡ b → All Good (cond b (told_end e.1.target e.1.owner e.0 x ∷ []) [])
+        go true i = All-cons Good (told_end e.1.target e.1.owner e.0 x) []
+            (told_founded E Call (OffNow (end_process p x o)) e.1.target e.1.owner e.0 x (ended i) known.0) none
         go false i = none
 
     left : (r : Reference)
@@ -389,22 +448,19 @@ module _ (n : Node) (Old : Pid → Data → Type 0) (Ok : Pid → Pid → Data �
     demonitors_good : (es : List (Reference × Watch)) → All (λ e. fm.get o.node.watches e.0 ≡ Some e.1) es → All Good (demonitors p es)
     demonitors_good [] h = none
     demonitors_good (e ∷ es) h =
-        All-append Good (cond (same_pid e.1.owner p) (taken_back p e.1.target e.0) []) (demonitors p es)
+        All-append Good (cond (same_pid e.1.owner p) (taken_back p e.1.target e.0 ∷ []) []) (demonitors p es)
         (go (same_pid e.1.owner p) refl)
         (demonitors_good es (All-tail (λ d. fm.get o.node.watches d.0 ≡ Some d.1) e es h))
       where
         here : fm.get o.node.watches e.0 ≡ Some e.1
         here = All-head (λ d. fm.get o.node.watches d.0 ≡ Some d.1) e es h
 
-        back : (z : Target) → OffNow (end_process p x o) e.0 → All Good (taken_back p z e.0)
-        back (Target.Pid q) f = All-cons Good (to_pid q (Signal.Demonitor p q e.0)) [] f none
-        back (Target.Name name node) f = none
-
-        go : (b : Bool) → same_pid e.1.owner p ≡ b → All Good (cond b (taken_back p e.1.target e.0) [])
-        go true i = back e.1.target (inr (
-          (e.1, k.watched e.0 e.1 here),
-          left e.0 ∙ ap (λ v. cond (not (is_owned p v)) v None) here ∙ ap (λ b. cond (not b) (Some e.1) None) i,
-        ))
+        go : (b : Bool) → same_pid e.1.owner p ≡ b → All Good (cond b (taken_back p e.1.target e.0 ∷ []) [])
+        go true i = All-cons Good (taken_back p e.1.target e.0) []
+            (back_founded (EndedBefore (end_process p x o)) Call (OffNow (end_process p x o)) p e.1.target e.0 (inr (
+              (e.1, k.watched e.0 e.1 here),
+              left e.0 ∙ ap (λ v. cond (not (is_owned p v)) v None) here ∙ ap (λ b. cond (not b) (Some e.1) None) i,
+            ))) none
         go false i = none
 
     true_finish : True (end_process p x o)
@@ -456,7 +512,7 @@ module _ (n : Node) (Old : Pid → Data → Type 0) (Ok : Pid → Pid → Data �
     Says = λ s. FoundedSignal Old Call Off s.signal;
     Reacts = Ok;
     Tells = λ r m x. Unit {0};
-    Joins = λ r m. Call m.owner m.held r;
+    Joins = λ r m. IsAsked Call m.target m.owner r;
     Drops = λ r m. Unit {0};
   }
 
@@ -479,11 +535,13 @@ module _ (n : Node) (Old : Pid → Data → Type 0) (Ok : Pid → Pid → Data �
         (true_more o (unwatch r o) refl refl (λ f c. c) k.acts (λ s v c. removed_some o.node.watches r s v c) k.enrolled k);
   }
     where
-      joined : (r : Reference) (m : Registration) (o : Work) → Call m.owner m.held r → IsBound m → True o → (s : Reference)
-          (v : Registration) → (fm.get o.node.registered s ≡ Some v) ⊎ ((s ≡ r) × (m ≡ v)) → Call v.owner v.held s × IsBound v
+      joined : (r : Reference) (m : Registration) (o : Work) → IsAsked Call m.target m.owner r → IsBound m → True o → (s : Reference)
+          (v : Registration) → (fm.get o.node.registered s ≡ Some v) ⊎ ((s ≡ r) × (m ≡ v))
+          → IsAsked Call v.target v.owner s × IsBound v
       joined r m o h b k s v (inl c) = k.enrolled s v c
       joined r m o h b k s v (inr c) = (
-        subst (λ z. Call v.owner v.held z) (sym c.0) (subst (λ (z : Registration). Call z.owner z.held r) c.1 h),
+        subst (λ z. IsAsked Call v.target v.owner z) (sym c.0)
+            (subst (λ (z : Registration). IsAsked Call z.target z.owner r) c.1 h),
         subst IsBound c.1 b,
       )
 

@@ -15,7 +15,7 @@ use Rattle.dist_model.specs.Linking.{exit_follows, take_link, take_link_by}
 use Rattle.dist_model.specs.Monitoring.{register, unregister, unwatch}
 use Rattle.dist_model.specs.Names.{Name, same_name, same_pid}
 use Rattle.dist_model.specs.Node.{Node, end_of, living, route, traps_life}
-use Rattle.dist_model.specs.Taking.{take_item}
+use Rattle.dist_model.specs.Taking.{take_item, take_named}
 use Rattle.dist_model.specs.Work.{Addressed, Work, keep_local, post, post_all, post_to, put, report, send_on, set_end, spelled, to_pid}
 use Rattle.dist_model.specs.declared.report.Effect.{Effect}
 use Rattle.dist_model.specs.World.{Refused, Report, Reported}
@@ -24,14 +24,15 @@ use Rattle.erl_names.specs.declared.trunk.TrunkId.{TrunkId}
 use Rattle.erl_term.specs.Data.{Data}
 use Rattle.erl_term.specs.declared.term.Pid.{Pid}
 use Rattle.erl_term.specs.declared.term.Reference.{Reference}
-use Rattle.exit_core.specs.Messages.{down_term}
+use Rattle.exit_core.specs.Messages.{down_term, named_term}
 use Rattle.exit_core.specs.Reaction.{reaction}
 use Rattle.exit_core.specs.declared.reaction.Reaction.{Reaction}
 use Rattle.link_core.specs.News.{Exited, LinkNews, Signals, heard, noproc, reply}
 use Rattle.link_core.specs.declared.end.End.{End}
 use Rattle.link_core.specs.declared.end.LinkSignal.{LinkSignal}
 use Rattle.monitor_core.specs.Monitors.{as_watch, is_held, itself, watch_of}
-use Rattle.dist_model.specs.Monitoring.{registration_of}
+use Rattle.dist_model.specs.Monitoring.{bind, bound, registration_of}
+use Rattle.dist_model.specs.Telling.{told_end}
 use Rattle.erl_term.specs.Data.{pid}
 use Rattle.monitor_core.specs.declared.monitor.Target.{Target}
 use Rattle.monitor_core.specs.declared.monitor.Registration.{Registration}
@@ -179,6 +180,20 @@ calm_cond false o x y f g = g
 calm_register : (k : Reference) (u : Registration) (o : Work) → Calm o (register k u o)
 calm_register k u o p q h = h
 
+calm_bound : (v : Option Pid) (b : Pid) (t : Target) (k : Reference) (o : Work) → Calm o (bind v b t k o)
+calm_bound v b t k o = go v
+  where
+    tells : Calm o (post (told_end t b k noproc) o)
+    tells = calm_post b.node (spelled o.node (told_end t b k noproc)) o
+
+    go : (v : Option Pid) → Calm o (bind v b t k o)
+    go None = tells
+    go (Some a) = calm_cond (living o.node a) o _ _ (calm_register k (bound b t a) o) tells
+
+calm_named : (v : Option Pid) (t : Data) (o : Work) → Calm o (take_named v t o)
+calm_named None t o = λ p q h. h
+calm_named (Some a) t o = calm_cond (living o.node a) o (put a t o) o (calm_put a t o) (λ c d k. k)
+
 pub item_taken : (y : Name) (x : Item) (o : Work) (p q : Pid) → reacts_in p q ((take_item y x o).effects) ≡ true
     → (reacts_in p q o.effects ≡ true) ⊎ Held o.node p q
 item_taken y (Signalled (Signal.Link b a) pay) o p q h = link_taken a b (Signals LinkSignal.Link) o p q h
@@ -186,12 +201,21 @@ item_taken y (Signalled (Signal.Exit b a r) pay) o p q h = link_taken a b (Exite
 item_taken y (Signalled (Signal.UnlinkId i b a) pay) o p q h = link_taken a b (Signals (LinkSignal.Unlink i)) o p q h
 item_taken y (Signalled (Signal.UnlinkIdAck i b a) pay) o p q h = link_taken a b (Signals (LinkSignal.Ack i)) o p q h
 item_taken y (Signalled (Signal.Send a t) pay) o p q h = inl (calm_cond (living o.node a) o (put a t o) o (calm_put a t o) (λ c d k. k) p q h)
+item_taken y (Signalled (Signal.RegSend a name t) pay) o p q h = inl (calm_named (fm.get o.node.names name) t o p q h)
 item_taken y (Signalled (Signal.Exit2 b a r) pay) o p q h =
     inl (calm_cond (living o.node a) o _ o (calm_carry (reaction (traps_life (fm.get o.node.lives a)) (sent_exit a b r)) a o)
     (λ c d k. k) p q h)
 item_taken y (Signalled (Signal.Monitor b a k) pay) o p q h =
     inl (calm_cond (living o.node a) o _ _ (calm_register k (registration_of b a) o)
     (calm_post b.node (spelled o.node (to_pid b (Signal.MonitorExit a b k noproc))) o) p q h)
+item_taken y (Signalled (Signal.MonitorName b name k) pay) o p q h =
+    inl (calm_bound (fm.get o.node.names name) b (Target.Name name o.node.mint.name) k o p q h)
+item_taken y (Signalled (Signal.DemonitorName b name k) pay) o p q h =
+    inl (calm_cond (is_held as_watch o.node.registered k (watch_of b (Target.Name name o.node.mint.name))) o (unregister k o) o
+    (λ c d z. z) (λ c d z. z) p q h)
+item_taken y (Signalled (Signal.MonitorNameExit name a k r) pay) o p q h =
+    inl (calm_cond (living o.node a && is_held itself o.node.watches k (watch_of a (Target.Name name y))) o _ o
+    (calm_put a (down_term k (named_term name y) r) (unwatch k o)) (λ c d z. z) p q h)
 item_taken y (Signalled (Signal.Demonitor b a k) pay) o p q h =
     inl (calm_cond (is_held as_watch o.node.registered k (watch_of b (Target.Pid a))) o (unregister k o) o (λ c d z. z) (λ c d z. z) p q h)
 item_taken y (Signalled (Signal.MonitorExit b a k r) pay) o p q h =

@@ -20,11 +20,11 @@ use Rattle.dist_model.proofs.WatchKnown.{Linked}
 use Rattle.dist_model.proofs.Run.{good_step_at}
 use Rattle.dist_model.proofs.Safety.{good_opening, new_is}
 use Rattle.dist_model.proofs.Trunks.{Good}
-use Rattle.dist_model.proofs.Told.{Begins, CauseOf, cause_of_pid, Course, Downs, IsFounded, IsNamed, Leaves, Old, Revoked, Sound, Stays, sound_after}
+use Rattle.dist_model.proofs.Told.{Begins, Called, Course, Downs, IsFounded, IsNamed, Leaves, Off, Old, Revoked, Sound, Stays, sound_after}
 use Rattle.dist_model.proofs.Lands.{down}
 use Rattle.dist_model.specs.Arrivals.{arrive_at, arrive_fresh, handshake_in, take_local}
 use Rattle.dist_model.specs.Calls.{call}
-use Rattle.dist_model.specs.Causes.{Reacts, TrueCause}
+use Rattle.dist_model.specs.Causes.{CauseOf, Reacts, TrueCause}
 use Rattle.dist_model.specs.Commands.{Accepts, Outcome, Refuses}
 use Rattle.dist_model.specs.declared.report.Answer.{Answer}
 use Rattle.dist_model.specs.declared.command.Command.{Command}
@@ -50,11 +50,11 @@ use Rattle.erl_term.specs.declared.refusal.Refusal.{Refusal}
 use Rattle.erl_term.specs.declared.term.Pid.{Pid}
 use Rattle.erl_term.specs.declared.term.Reference.{Reference}
 use Rattle.erl_term.specs.Order.{reference_cmp}
-use Rattle.dist_model.proofs.Founded.{popped_lists, founded_by}
+use Rattle.dist_model.proofs.Founded.{asked_by, popped_lists, founded_by}
 use Rattle.dist_model.proofs.HomeMonitors.{TargetsIn}
 use Rattle.erl_handshake.specs.declared.setup.Setup.{Setup}
 use Rattle.monitor_core.specs.declared.monitor.Target.{Target}
-use Rattle.dist_model.specs.Monitoring.{pid_watch}
+use Rattle.monitor_core.specs.Monitors.{watch_of}
 
 -- a refused event is no call that went through
 refused_unanswered : (k : Reference) (e : Event) (j : Refusal) → is_answered k e (Refused j) ≡ false
@@ -83,7 +83,8 @@ module _ (w : World) (h : History) (g : Sound w h) (e : Event) (j : Refusal) whe
   old_call k p q (inr i) = i
 
   still_founded : (i : Item) → IsFounded w h i → IsFounded w ((record { event = e; report = Refused j }) ∷ h) i
-  still_founded = founded_by _ _ _ _ _ _ ended (λ p q k c. inr c) (λ k c. (omega (arith, same_answers k, c.0), c.1))
+  still_founded = founded_by (Old w h) (Old w ((record { event = e; report = Refused j }) ∷ h)) (Called h)
+      (Called ((record { event = e; report = Refused j }) ∷ h)) (Off w h) (Off w ((record { event = e; report = Refused j }) ∷ h)) ended (λ p q k c. inr c) (λ k c. (omega (arith, same_answers k, c.0), c.1))
     where
       ended : (q : Pid) (z : Data) → Old w h q z → Old w ((record { event = e; report = Refused j }) ∷ h) q z
       ended q z (inl c) = inl (inr c)
@@ -96,7 +97,11 @@ module _ (w : World) (h : History) (g : Sound w h) (e : Event) (j : Refusal) whe
     locals = λ y v hv.
         All-weaker (IsFounded w h) (IsFounded w ((record { event = e; report = Refused j }) ∷ h)) still_founded v.local (g.locals y v hv);
     homes = g.homes;
-    enrolled = λ y v k u hv i. let r = g.enrolled y v k u hv i in (r.0, inr r.1, r.2);
+    enrolled = λ y v k u hv i. let r = g.enrolled y v k u hv i in (
+      r.0,
+      asked_by (Called h) (Called (refusal ∷ h)) (λ p t z c. inr c) u.target u.owner k r.1,
+      r.2,
+    );
     one = λ k. omega (arith, same_answers k, g.one k);
     drawn = λ k i. g.drawn k (omega (arith, same_answers k, i));
     unanswered = λ k i. let v = g.unanswered k (omega (arith, same_answers k, i)) in (v.0, λ z. v.1 (still_unrevoked k z));
@@ -138,7 +143,7 @@ module _ (w : World) (h : History) (gw : Good w) (g : Sound w h) where
     told_down a o k d (Begins p q ev i r kx nd dr l (inl c)) m = absurd (no_down d (subst (λ l. Contains l d) c.1 m))
     told_down a o k d (Begins p q ev i r kx nd dr l (inr c)) m =
         subst (λ (v : Down). CauseOf h w v.owner v.target v.info)
-        (one_down (down (pid_watch p q) c.1) d (subst (λ l. Contains l d) c.3 m)) c.2
+        (one_down (down (watch_of p q) c.1) d (subst (λ l. Contains l d) c.3 m)) c.2
     told_down a o k d (Revoked u b c dn i r) m = absurd (no_down d (subst (λ l. Contains l d) dn m))
 
     ends_after : (m : FinMap place_cmp (List Item)) (o : Outcome)
@@ -286,7 +291,7 @@ pub no_down_where_demonitored : (h : History) (w : World) → Tale w h → NoDow
 no_down_where_demonitored h w t = t.sound.none_after
 
 pub downs_tell_true_cause : (h : History) (w : World) → Tale w h → DownsTellTrueCause h w
-downs_tell_true_cause h w t e r d c = cause_of_pid h w d.owner d.target d.info ((next w h t.good t.sound e).ends r d c)
+downs_tell_true_cause h w t e r d c = (next w h t.good t.sound e).ends r d c
 
 pub connected_by_cookie : (h : History) (w : World) → Tale w h → ConnectedByCookie h w
 connected_by_cookie h w t = by_cookie h w t.known

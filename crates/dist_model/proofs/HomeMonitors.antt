@@ -14,7 +14,7 @@ use Rattle.dist_model.specs.Items.{Item, Signalled}
 use Rattle.dist_model.specs.Names.{Name, same_name, same_pid}
 use Rattle.dist_model.specs.Node.{Node, route}
 use Rattle.dist_model.specs.Sides.{TrunkSide}
-use Rattle.dist_model.specs.Work.{Addressed, Work, keep_local, post, post_all, send_on, spelled, to_pid}
+use Rattle.dist_model.specs.Work.{Addressed, Work, keep_local, post, post_all, send_on, spelled, to_node, to_pid}
 use Rattle.erl_control.specs.declared.signal.Signal.{Signal}
 use Rattle.erl_names.specs.declared.trunk.TrunkId.{TrunkId}
 use Rattle.erl_term.specs.Data.{Data}
@@ -67,6 +67,11 @@ module _ (n : Node) (P : Pid → Type 0) where
       go true e = All-push (TargetsIn P) o.node.local (spelled o.node s) k.local (h (ap (same_name s.node) (sym k.name) ∙ e))
       go false e = on (route o.node s.node)
 
+  -- the demonitor and the exit of a target name no process to monitor
+  pub back_says : (p : Pid) (t : Target) (k : Reference) → Says (taken_back p t k)
+  back_says p (Target.Pid q) k = λ e. tt
+  back_says p (Target.Name name node) k = λ e. tt
+
   -- the target that is posted
   abbrev Posted : Addressed → Type 0
   Posted s = Targets P s.signal
@@ -85,31 +90,31 @@ module _ (n : Node) (P : Pid → Type 0) where
       go true End.Active = All-cons Posted (to_pid e.0.1 (Signal.Exit p e.0.1 x)) [] tt (All-nil Posted)
       go _ _ = All-nil Posted
 
-  told_home : (t : Target) (o : Pid) (k : Reference) (x : Data) → All Posted (told_end t o k x)
+  told_home : (t : Target) (o : Pid) (k : Reference) (x : Data) → All Posted (told_end t o k x ∷ [])
   told_home (Target.Pid q) o k x = All-cons Posted (to_pid o (Signal.MonitorExit q o k x)) [] tt (All-nil Posted)
-  told_home (Target.Name name node) o k x = All-nil Posted
+  told_home (Target.Name name node) o k x = All-cons Posted (to_pid o (Signal.MonitorNameExit name o k x)) [] tt (All-nil Posted)
 
-  back_home : (p : Pid) (t : Target) (k : Reference) → All Posted (taken_back p t k)
+  back_home : (p : Pid) (t : Target) (k : Reference) → All Posted (taken_back p t k ∷ [])
   back_home p (Target.Pid q) k = All-cons Posted (to_pid q (Signal.Demonitor p q k)) [] tt (All-nil Posted)
-  back_home p (Target.Name name node) k = All-nil Posted
+  back_home p (Target.Name name node) k = All-cons Posted (to_node node (Signal.DemonitorName p name k)) [] tt (All-nil Posted)
 
   monitor_exits_home : (p : Pid) (x : Data) (es : List (Reference × Registration)) → All Posted (monitor_exits p x es)
   monitor_exits_home p x [] = All-nil Posted
   monitor_exits_home p x (e ∷ es) =
-      All-append Posted (cond (same_pid e.1.held p) (told_end e.1.target e.1.owner e.0 x) [])
+      All-append Posted (cond (same_pid e.1.held p) (told_end e.1.target e.1.owner e.0 x ∷ []) [])
       (monitor_exits p x es) (go (same_pid e.1.held p)) (monitor_exits_home p x es)
     where
-      go : (b : Bool) → All Posted (cond b (told_end e.1.target e.1.owner e.0 x) [])
+      go : (b : Bool) → All Posted (cond b (told_end e.1.target e.1.owner e.0 x ∷ []) [])
       go true = told_home e.1.target e.1.owner e.0 x
       go false = All-nil Posted
 
   demonitors_home : (p : Pid) (es : List (Reference × Watch)) → All Posted (demonitors p es)
   demonitors_home p [] = All-nil Posted
   demonitors_home p (e ∷ es) =
-      All-append Posted (cond (same_pid e.1.owner p) (taken_back p e.1.target e.0) []) (demonitors p es)
+      All-append Posted (cond (same_pid e.1.owner p) (taken_back p e.1.target e.0 ∷ []) []) (demonitors p es)
       (go (same_pid e.1.owner p)) (demonitors_home p es)
     where
-      go : (b : Bool) → All Posted (cond b (taken_back p e.1.target e.0) [])
+      go : (b : Bool) → All Posted (cond b (taken_back p e.1.target e.0 ∷ []) [])
       go true = back_home p e.1.target e.0
       go false = All-nil Posted
 

@@ -5,17 +5,19 @@ use Rattle.std.proofs.Common.{◌≡◌, true, ◌⊎◌, Option, Some, None, su
 use Rattle.std.specs.FinMap as fm
 use Rattle.dist_model.proofs.Calls.{IfGoes, Renames, if_cond, if_drawn}
 use Rattle.dist_model.proofs.Entries.{registered_found, watch_found}
-use Rattle.dist_model.proofs.Parts.{Closed, Rules, acts_kept, call_kept, cond_kept, item_kept, link_swept}
+use Rattle.dist_model.proofs.Parts.{Apart, Closed, Rules, acts_kept, call_kept, cond_kept, item_kept, link_swept}
 use Rattle.dist_model.proofs.Records.{least_as}
 use Rattle.dist_model.specs.Calls.{call, spawn_life}
+use Rattle.dist_model.specs.Commands.{Accepts, with_id}
 use Rattle.dist_model.specs.declared.command.Command.{Command}
+use Rattle.dist_model.specs.declared.report.Answer.{Answer}
 use Rattle.dist_model.specs.Exits.{end_process}
 use Rattle.dist_model.specs.Items.{Item}
 use Rattle.dist_model.specs.Losses.{least_record, link_to, sweep_record}
-use Rattle.dist_model.specs.Monitoring.{demonitor_by, pid_watch, register, unregister, unwatch, watch}
+use Rattle.dist_model.specs.Monitoring.{demonitor_by, monitor, register, unregister, unwatch, watch}
 use Rattle.dist_model.specs.Names.{Name, same_pid}
 use Rattle.dist_model.specs.Naming.{NameMap}
-use Rattle.dist_model.specs.Node.{Life, Node, is_living_life, living, reaches}
+use Rattle.dist_model.specs.Node.{Life, Node, is_living_life, living, monitors_names, reaches}
 use Rattle.dist_model.specs.Taking.{take_item}
 use Rattle.dist_model.specs.Work.{Addressed, Work, at_work, draw, post, post_all, put, report, set_end, set_life, to_pid}
 use Rattle.dist_model.specs.declared.report.Effect.{Effect}
@@ -29,9 +31,10 @@ use Rattle.erl_term.specs.declared.term.Reference.{Reference}
 use Rattle.exit_core.specs.Messages.{down_term}
 use Rattle.link_core.specs.News.{noconnection}
 use Rattle.link_core.specs.declared.end.End.{End}
+use Rattle.monitor_core.specs.Monitors.{target_node, watch_of}
 use Rattle.monitor_core.specs.declared.monitor.Target.{Target}
 use Rattle.monitor_core.specs.declared.monitor.Watch.{Watch}
-use Rattle.dist_model.specs.Telling.{object, taken_back}
+use Rattle.dist_model.specs.Telling.{asked, object, taken_back}
 use Rattle.monitor_core.specs.declared.monitor.Registration.{Registration}
 
 -- the parts of an event, but for what it does to sides
@@ -81,41 +84,51 @@ module _ (X : Work → Type 0) (c : Parts X) where
     gone = λ p q pay e l. tt;
     acts = λ p q x pay e l a. tt;
     sent = λ p m pay e. c.message p m o k;
+    named = λ q p name m pay e. c.message p m o k;
     nobody = λ p q r pay e l. tt;
+    nobody_named = λ p name r pay e. tt;
     joins = λ p q r pay e l. tt;
+    joins_named = λ p name r pay q e l. tt;
     drops = λ p q r pay m e l s. tt;
+    drops_named = λ p name r pay m e l s. tt;
     tells = λ p q r x pay e l. tt;
+    tells_named = λ p name r x pay e l. tt;
   }) k
 
-  monitors : (n : Node) (p q : Pid) → X (at_work n) → IfGoes (call n (Command.Monitor p q)) X
-  monitors n p q k = acts_kept any_rules X closed n k p q _ (λ l. if_drawn (id_of n.mint kind.Reference) _ X (λ id h.
+  -- of either target
+  targeted : (n : Node) (p : Pid) (t : Target) → living n p ≡ true → X (at_work n) → IfGoes (with_id (id_of n.mint kind.Reference) (λ id.
+      Accepts (Answer.Reference (reference_of n.mint id)) (monitor (reference_of n.mint id) p t (draw kind.Reference (at_work n))))) X
+  targeted n p t l k = if_drawn (id_of n.mint kind.Reference) _ X (λ id h.
       let o = draw kind.Reference (at_work n) in
       let r = reference_of n.mint id in
-      cond_kept any_rules X closed (reaches o.node q.node) _ _
-      (λ e. c.posted (to_pid q (Signal.Monitor p q r)) (watch r (pid_watch p q) o) (c.watches r (pid_watch p q) o l (c.drew kind.Reference
+      cond_kept any_rules X closed (reaches o.node (target_node t)) _ _
+      (λ e. c.posted (asked p t r) (watch r (watch_of p t) o) (c.watches r (watch_of p t) o l (c.drew kind.Reference
       (at_work n) (λ e. cc) k)))
-      (λ e. c.message p (down_term r (pid q) noconnection) o (c.drew kind.Reference (at_work n) (λ e. cc) k))))
+      (λ e. c.message p (down_term r (object t) noconnection) o (c.drew kind.Reference (at_work n) (λ e. cc) k)))
 
-  back_keeps : (t : Target) (p : Pid) (r : Reference) (o : Work) → X o → X (post_all (taken_back p t r) o)
-  back_keeps (Target.Pid q) p r o k = c.posted (to_pid q (Signal.Demonitor p q r)) o k
-  back_keeps (Target.Name name node) p r o k = k
+  monitors : (n : Node) (p q : Pid) → X (at_work n) → IfGoes (call n (Command.Monitor p q)) X
+  monitors n p q k = acts_kept any_rules X closed n k p q _ (λ l. targeted n p (Target.Pid q) l k)
+
+  monitors_named : (n : Node) (p : Pid) (y name : Name) → X (at_work n) → IfGoes (call n (Command.MonitorName p y name)) X
+  monitors_named n p y name k = if_cond (living n p) _ Refusal.NoSuchProcess X
+      (λ l. if_cond (monitors_names n y) _ Refusal.NotOffered X (λ f. targeted n p (Target.Name name y) l k))
 
   demonitors : (v : Option Watch) (p : Pid) (r : Reference) (o : Work) → X o → IfGoes (demonitor_by v p r o) X
   demonitors None p r o k = tt
   demonitors (Some m) p r o k = if_cond (same_pid m.owner p) _ Refusal.NotTheOwner X
-      (λ h. back_keeps m.target p r (unwatch r o) (c.unwatches r o k))
+      (λ h. c.posted (taken_back p m.target r) (unwatch r o) (c.unwatches r o k))
 
-  others : (n : Node) (d : Command) → ((p q : Pid) → d ≡ Command.Monitor p q → ⊥) → ((p : Pid) (r : Reference)
-      → d ≡ Command.Demonitor p r → ⊥)
+  others : (n : Node) (d : Command) → Apart d
       → (d ≡ Command.Spawn → (p : Pid) → X (spawn_life n p)) → X (at_work n) → IfGoes (call n d) X
-  others n d a b s k = call_kept any_rules X closed n k d (a, b) (λ id e h. s e (pid_of n.mint id)) (λ p q e l r. tt)
+  others n d a s k = call_kept any_rules X closed n k d a (λ id e h. s e (pid_of n.mint id)) (λ p q e l r. tt)
 
   -- what a process begins with is for each X to say
   pub call_keeps : (n : Node) (d : Command) → (d ≡ Command.Spawn → (p : Pid) → X (spawn_life n p)) → X (at_work n) → IfGoes (call n d) X
   call_keeps n (Command.Monitor p q) s k = monitors n p q k
+  call_keeps n (Command.MonitorName p y name) s k = monitors_named n p y name k
   call_keeps n (Command.Demonitor p r) s k = if_cond (living n p) _ Refusal.NoSuchProcess X
       (λ l. demonitors (fm.get n.watches r) p r (at_work n) k)
-  call_keeps n d s k = others n d (λ a b e. cc) (λ a r e. cc) s k
+  call_keeps n d s k = others n d ((λ a b e. cc), (λ a r e. cc), (λ a y b e. cc)) s k
 
   -- the least record towards a peer
   pub record_keeps : (y : Name) (o : Work) → X o → X (sweep_record (least_record y o.node) o)

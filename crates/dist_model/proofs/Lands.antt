@@ -28,8 +28,7 @@ use Rattle.erl_term.specs.Order.{reference_cmp}
 use Rattle.monitor_core.specs.declared.monitor.Target.{Target}
 use Rattle.monitor_core.specs.declared.monitor.Watch.{Watch}
 use Rattle.monitor_core.specs.declared.monitor.Registration.{Registration}
-use Rattle.dist_model.specs.Telling.{object, told_end}
-use Rattle.dist_model.proofs.Entries.{IsBound}
+use Rattle.dist_model.specs.Telling.{monitor_exit_signal, monitor_signal, object, told_end}
 
 abbrev pub down : Watch → Data → Down
 down m x = record { owner = m.owner; target = m.target; info = x }
@@ -37,16 +36,30 @@ down m x = record { owner = m.owner; target = m.target; info = x }
 -- MONITOR_P, and MONITOR_P_EXIT, of this reference
 abbrev pub is_call : Reference → Item → Bool
 is_call k (Signalled (Signal.Monitor p q r) pay) = same_reference k r
+is_call k (Signalled (Signal.MonitorName p name r) pay) = same_reference k r
 is_call k _ = false
 
 abbrev pub is_end : Reference → Item → Bool
 is_end k (Signalled (Signal.MonitorExit q p r x) pay) = same_reference k r
+is_end k (Signalled (Signal.MonitorNameExit name p r x) pay) = same_reference k r
 is_end k _ = false
 
 -- the payload changes nothing there
 pub end_blind : (k : Reference) (s : Signal) (pay : Bool) → is_end k (Signalled s pay) ≡ is_end k (Signalled s false)
 end_blind k (Signal.MonitorExit q p r x) pay = refl
+end_blind k (Signal.MonitorNameExit name p r x) pay = refl
 end_blind k _ pay = refl
+
+-- the references of the signals about a monitor
+pub asked_is : (k : Reference) (p : Pid) (t : Target) (r : Reference) (pay : Bool)
+    → is_call k (Signalled (monitor_signal p t r) pay) ≡ same_reference k r
+asked_is k p (Target.Pid q) r pay = refl
+asked_is k p (Target.Name name node) r pay = refl
+
+pub told_is : (k : Reference) (t : Target) (p : Pid) (r : Reference) (x : Data) (pay : Bool)
+    → is_end k (Signalled (monitor_exit_signal t p r x) pay) ≡ same_reference k r
+told_is k (Target.Pid q) p r x pay = refl
+told_is k (Target.Name name node) p r x pay = refl
 
 -- lists
 pub has_append : (f : Item → Bool) (xs ys : List Item) → has f (xs ++ ys) ≡ (has f xs || has f ys)
@@ -196,33 +209,31 @@ lands_all f blind n y (s ∷ ss) o sd nm h = go (f (Signalled s.signal false) &&
 
 -- one that ends tells the owner of each registration
 pub told_owner : (p : Pid) (x : Data) (k : Reference) (m : Registration) (es : List (Reference × Registration))
-    → find reference_cmp k es ≡ Some m → same_pid m.held p ≡ true → IsBound m
-    → any_to (is_end k) m.owner.node (monitor_exits p x es) ≡ true
-told_owner p x k m [] h t b = absurd (none-some m h)
-told_owner p x k m (e ∷ es) h t b =
-    any_to_append (is_end k) m.owner.node (cond (same_pid e.1.held p) (told_end e.1.target e.1.owner e.0 x) [])
-    (monitor_exits p x es) ∙ go (same_reference k e.0) refl h (λ i. told_owner p x k m es i t b)
+    → find reference_cmp k es ≡ Some m → same_pid m.held p ≡ true → any_to (is_end k) m.owner.node (monitor_exits p x es) ≡ true
+told_owner p x k m [] h t = absurd (none-some m h)
+told_owner p x k m (e ∷ es) h t =
+    any_to_append (is_end k) m.owner.node (cond (same_pid e.1.held p) (told_end e.1.target e.1.owner e.0 x ∷ []) [])
+    (monitor_exits p x es) ∙ go (same_reference k e.0) refl h (λ i. told_owner p x k m es i t)
   where
     -- this one's owner is told
-    told : same_reference k e.0 ≡ true → e.1 ≡ m → any_to (is_end k) m.owner.node (told_end e.1.target e.1.owner e.0 x) ≡ true
+    told : same_reference k e.0 ≡ true → e.1 ≡ m → any_to (is_end k) m.owner.node (told_end e.1.target e.1.owner e.0 x ∷ []) ≡ true
     told a c =
-        ap (λ (z : Registration). any_to (is_end k) m.owner.node (told_end z.target z.owner e.0 x)) c
-        ∙ ap (λ z. any_to (is_end k) m.owner.node (told_end z m.owner e.0 x)) b
-        ∙ ap (λ c. (c && same_name m.owner.node m.owner.node) || false) a
+        ap (λ (z : Registration). any_to (is_end k) m.owner.node (told_end z.target z.owner e.0 x ∷ [])) c
+        ∙ ap (λ c. (c && same_name m.owner.node m.owner.node) || false) (told_is k m.target m.owner e.0 x false ∙ a)
         ∙ ap (λ c. c || false) (same_name_is m.owner.node m.owner.node refl)
 
     first : (c : Bool) → same_pid e.1.held p ≡ c → c ≡ true → same_reference k e.0 ≡ true → e.1 ≡ m
-        → any_to (is_end k) m.owner.node (cond c (told_end e.1.target e.1.owner e.0 x) []) ≡ true
+        → any_to (is_end k) m.owner.node (cond c (told_end e.1.target e.1.owner e.0 x ∷ []) []) ≡ true
     first true i j a c = told a c
     first false i j a c = cc
 
     go : (c : Bool) → same_reference k e.0 ≡ c → cond c (Some e.1) (find reference_cmp k es) ≡ Some m
         → (find reference_cmp k es ≡ Some m → any_to (is_end k) m.owner.node (monitor_exits p x es) ≡ true)
-        → (any_to (is_end k) m.owner.node (cond (same_pid e.1.held p) (told_end e.1.target e.1.owner e.0 x) [])
+        → (any_to (is_end k) m.owner.node (cond (same_pid e.1.held p) (told_end e.1.target e.1.owner e.0 x ∷ []) [])
         || any_to (is_end k) m.owner.node (monitor_exits p x es)) ≡ true
     go true i h f = let c : e.1 ≡ m = same_Some e.1 m h in
         ap (λ d. d || any_to (is_end k) m.owner.node (monitor_exits p x es)) (first (same_pid e.1.held p) refl
         (ap (λ (z : Registration). same_pid z.held p) c ∙ t) i c)
     go false i h f =
-        or_right (any_to (is_end k) m.owner.node (cond (same_pid e.1.held p) (told_end e.1.target e.1.owner e.0 x) []))
+        or_right (any_to (is_end k) m.owner.node (cond (same_pid e.1.held p) (told_end e.1.target e.1.owner e.0 x ∷ []) []))
         (any_to (is_end k) m.owner.node (monitor_exits p x es)) (f h)

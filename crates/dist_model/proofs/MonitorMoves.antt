@@ -280,15 +280,15 @@ module _ (n : Node) (Tells : Reference → Watch → Data → Type 0) (Joins : R
       exits_in p x (fm.entries o.node.ends) ++ monitor_exits p x (fm.entries o.node.registered) ++ demonitors p (fm.entries o.node.watches)
 
   owner_hears : (p : Pid) (x : Data) (o : Work) (j : Reference) (m : Registration) → fm.get o.node.registered j ≡ Some m
-      → same_pid m.held p ≡ true → IsBound m → any_to (is_end j) m.owner.node (last_words p x o) ≡ true
-  owner_hears p x o j m h e b =
+      → same_pid m.held p ≡ true → any_to (is_end j) m.owner.node (last_words p x o) ≡ true
+  owner_hears p x o j m h e =
       any_to_append (is_end j) m.owner.node
       (exits_in p x (fm.entries o.node.ends) ++ monitor_exits p x (fm.entries o.node.registered))
       (demonitors p (fm.entries o.node.watches))
       ∙ or_left _ (any_to (is_end j) m.owner.node (demonitors p (fm.entries o.node.watches)))
       (any_to_append (is_end j) m.owner.node (exits_in p x (fm.entries o.node.ends)) (monitor_exits p x (fm.entries o.node.registered))
       ∙ or_right (any_to (is_end j) m.owner.node (exits_in p x (fm.entries o.node.ends))) _
-      (told_owner p x j m (fm.entries o.node.registered) (sym (fm.get-entries o.node.registered j) ∙ h) e b))
+      (told_owner p x j m (fm.entries o.node.registered) (sym (fm.get-entries o.node.registered j) ∙ h) e))
 
   finish_turns : (p : Pid) (x : Data) (o : Work) → Core o → Core (end_process p x o)
   finish_turns p x o k = record {
@@ -296,7 +296,7 @@ module _ (n : Node) (Tells : Reference → Watch → Data → Type 0) (Joins : R
         (λ j m h e.
         let r = ap (λ z. fm.get z j) (sym (all_posts_keep (λ v. v.registered) (λ v l. refl) (last_words p x o) o)) ∙ h in
         lands_all (is_end j) (end_blind j) n m.owner.node (last_words p x o) o k.sides k.turns.name
-        (owner_hears p x o j m r e (k.turns.enrolled j m r).1))
+        (owner_hears p x o j m r e))
         (turns_aside o (post_all (last_words p x o) o) (posts_aside (last_words p x o) o) k.turns);
     sides = all_posts_keep (λ m. m.sides) (λ m l. refl) (last_words p x o) o ∙ k.sides;
   }

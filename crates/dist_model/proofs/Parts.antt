@@ -7,6 +7,7 @@ use Rattle.std.specs.FinMap as fm
 use Rattle.std.proofs.lemmas.Option.{same_Some}
 use Rattle.dist_model.proofs.Seen.{replies}
 use Rattle.dist_model.proofs.Calls.{IfGoes, Renames, if_cond, if_drawn, if_not, living_trapping, living_without, registered_goes, unregistered_goes}
+use Rattle.monitor_core.proofs.Held.{target_same}
 use Rattle.dist_model.proofs.Keys.{same_pid_true}
 use Rattle.dist_model.specs.Calls.{acting, call, spawn_life, toward, trapping, without_first}
 use Rattle.dist_model.specs.Commands.{Outcome}
@@ -18,12 +19,12 @@ use Rattle.dist_model.specs.Items.{Handshake, Item, Signalled, Tick}
 use Rattle.dist_model.specs.Linking.{exit_follows, link_by, link_new, take_link, take_link_by, unlink_by}
 use Rattle.dist_model.proofs.Records.{sweep_link, sweep_registered, sweep_watch}
 use Rattle.dist_model.specs.Losses.{registered_by, sweep_end, watch_to}
-use Rattle.dist_model.specs.Monitoring.{pid_watch, register, registration_of, unregister, unwatch}
+use Rattle.dist_model.specs.Monitoring.{bind, bound, pid_watch, register, registration_of, unregister, unwatch}
 use Rattle.dist_model.specs.Names.{Name, same_name, same_pid}
 use Rattle.dist_model.specs.Naming.{NameMap}
 use Rattle.dist_model.specs.Node.{Life, Node, end_of, is_living_life, living, is_stranger, reaches, traps_life}
-use Rattle.dist_model.specs.Taking.{take_item}
-use Rattle.dist_model.specs.Work.{Addressed, Work, at_work, draw, post, post_all, put, report, set_end, set_life, to_pid}
+use Rattle.dist_model.specs.Taking.{take_item, take_named}
+use Rattle.dist_model.specs.Work.{Addressed, Work, at_work, draw, post, post_all, put, report, set_end, set_life, to_node, to_pid}
 use Rattle.dist_model.specs.declared.report.Effect.{Effect}
 use Rattle.erl_control.specs.declared.signal.Signal.{Signal}
 use Rattle.erl_names.specs.Ids.{pid_of}
@@ -39,11 +40,11 @@ use Rattle.exit_core.specs.declared.reaction.Reaction.{Reaction}
 use Rattle.link_core.specs.News.{Exited, LinkNews, Signals, heard, noconnection, noproc, reply}
 use Rattle.link_core.specs.declared.end.End.{End}
 use Rattle.link_core.specs.declared.end.LinkSignal.{LinkSignal}
-use Rattle.monitor_core.specs.Monitors.{as_watch, is_held, is_this, itself, same_target}
+use Rattle.monitor_core.specs.Monitors.{as_watch, is_held, is_this, itself, same_target, watch_of}
 use Rattle.monitor_core.specs.declared.monitor.Target.{Target}
 use Rattle.monitor_core.specs.declared.monitor.Watch.{Watch}
 use Rattle.monitor_core.specs.declared.monitor.Registration.{Registration}
-use Rattle.dist_model.specs.Telling.{object}
+use Rattle.dist_model.specs.Telling.{object, told_end}
 use Rattle.dist_model.proofs.Entries.{IsBound}
 use Rattle.std.specs.Option.{option_map}
 
@@ -51,8 +52,11 @@ use Rattle.std.specs.Option.{option_map}
 abbrev pub is_plain : Signal → Bool
 is_plain (Signal.Exit p q r) = false
 is_plain (Signal.Monitor p q r) = false
+is_plain (Signal.MonitorName p name r) = false
 is_plain (Signal.Demonitor p q r) = false
+is_plain (Signal.DemonitorName p name r) = false
 is_plain (Signal.MonitorExit p q r x) = false
+is_plain (Signal.MonitorNameExit name q r x) = false
 is_plain _ = true
 
 -- what may be said, why a process may react to an exit, why a monitor may end, and why a registration may come and go
@@ -80,41 +84,53 @@ pub record Closed (rules : Rules) (X : Work → Type 0) : Type 0 where
   pub ended : (r : Reference) (m : Watch) (x : Data) (o : Work) → fm.get o.node.watches r ≡ Some m → rules.Tells r m x → X o
       → X (put m.owner (down_term r (object m.target) x) (unwatch r o))
 
--- why an item may be taken
-pub record Reasons (rules : Rules) (X : Work → Type 0) (i : Item) (o : Work) : Type 0 where
+-- why an item from the node y may be taken
+pub record Reasons (rules : Rules) (X : Work → Type 0) (y : Name) (i : Item) (o : Work) : Type 0 where
   pub gone : (p q : Pid) (pay : Bool) → i ≡ Signalled (Signal.Link q p) pay → living o.node p ≡ false → rules.Says (to_pid q (Signal.Exit p q noproc))
   pub acts : (p q : Pid) (x : Data) (pay : Bool) → i ≡ Signalled (Signal.Exit q p x) pay → living o.node p ≡ true
       → end_of o.node p q ≡ End.Active → rules.Reacts p q x
   pub sent : (p : Pid) (m : Data) (pay : Bool) → i ≡ Signalled (Signal.Send p m) pay → X (put p m o)
+  pub named : (q p : Pid) (name : Name) (m : Data) (pay : Bool) → i ≡ Signalled (Signal.RegSend q name m) pay → X (put p m o)
   pub nobody : (p q : Pid) (r : Reference) (pay : Bool) → i ≡ Signalled (Signal.Monitor p q r) pay → living o.node q ≡ false
       → rules.Says (to_pid p (Signal.MonitorExit q p r noproc))
+  pub nobody_named : (p : Pid) (name : Name) (r : Reference) (pay : Bool) → i ≡ Signalled (Signal.MonitorName p name r) pay
+      → rules.Says (to_pid p (Signal.MonitorNameExit name p r noproc))
   pub joins : (p q : Pid) (r : Reference) (pay : Bool) → i ≡ Signalled (Signal.Monitor p q r) pay → living o.node q ≡ true
       → rules.Joins r (registration_of p q)
+  pub joins_named : (p : Pid) (name : Name) (r : Reference) (pay : Bool) (q : Pid) → i ≡ Signalled (Signal.MonitorName p name r) pay
+      → living o.node q ≡ true → rules.Joins r (bound p (Target.Name name o.node.mint.name) q)
   pub drops : (p q : Pid) (r : Reference) (pay : Bool) (m : Registration) → i ≡ Signalled (Signal.Demonitor p q r) pay
       → fm.get o.node.registered r ≡ Some m → as_watch m ≡ pid_watch p q → rules.Drops r m
+  pub drops_named : (p : Pid) (name : Name) (r : Reference) (pay : Bool) (m : Registration)
+      → i ≡ Signalled (Signal.DemonitorName p name r) pay → fm.get o.node.registered r ≡ Some m
+      → as_watch m ≡ watch_of p (Target.Name name o.node.mint.name) → rules.Drops r m
   pub tells : (p q : Pid) (r : Reference) (x : Data) (pay : Bool) → i ≡ Signalled (Signal.MonitorExit q p r x) pay
       → fm.get o.node.watches r ≡ Some (pid_watch p q) → rules.Tells r (pid_watch p q) x
+  pub tells_named : (p : Pid) (name : Name) (r : Reference) (x : Data) (pay : Bool)
+      → i ≡ Signalled (Signal.MonitorNameExit name p r x) pay
+      → fm.get o.node.watches r ≡ Some (watch_of p (Target.Name name y)) → rules.Tells r (watch_of p (Target.Name name y)) x
 
-of_pid : (t : Target) (q : Pid) → same_target t (Target.Pid q) ≡ true → t ≡ Target.Pid q
-of_pid (Target.Pid z) q e = ap Target.Pid (same_pid_true z q e)
-of_pid (Target.Name name node) q e = cc
-
-pub held_is : (v : Option Watch) (p q : Pid) → is_this v (pid_watch p q) ≡ true → v ≡ Some (pid_watch p q)
-held_is None p q h = cc
-held_is (Some v) p q h =
-    let b = and_parts (same_pid v.owner p) (same_target v.target (Target.Pid q)) h in
+pub held_is : (v : Option Watch) (p : Pid) (t : Target) → is_this v (watch_of p t) ≡ true → v ≡ Some (watch_of p t)
+held_is None p t h = cc
+held_is (Some v) p t h =
+    let b = and_parts (same_pid v.owner p) (same_target v.target t) h in
     let x : v.owner ≡ p = same_pid_true v.owner p b.0 in
-    let y : v.target ≡ Target.Pid q = of_pid v.target q b.1 in
+    let y : v.target ≡ t = target_same v.target t b.1 in
     λ i. Some (record { owner = x i; target = y i })
 
-pub held_watch : (v : Option Watch) (p q : Pid) → is_this (option_map itself v) (pid_watch p q) ≡ true → v ≡ Some (pid_watch p q)
-held_watch None p q h = cc
-held_watch (Some v) p q h = held_is (Some v) p q h
+pub held_watch : (v : Option Watch) (p : Pid) (t : Target) → is_this (option_map itself v) (watch_of p t) ≡ true → v ≡ Some (watch_of p t)
+held_watch None p t h = cc
+held_watch (Some v) p t h = held_is (Some v) p t h
 
-pub held_registration : (v : Option Registration) (p q : Pid) → is_this (option_map as_watch v) (pid_watch p q) ≡ true
-    → (m : Registration) × (v ≡ Some m) × (as_watch m ≡ pid_watch p q)
-held_registration None p q h = cc
-held_registration (Some m) p q h = (m, refl, same_Some (as_watch m) (pid_watch p q) (held_is (Some (as_watch m)) p q h))
+pub held_registration : (v : Option Registration) (p : Pid) (t : Target) → is_this (option_map as_watch v) (watch_of p t) ≡ true
+    → (m : Registration) × (v ≡ Some m) × (as_watch m ≡ watch_of p t)
+held_registration None p t h = cc
+held_registration (Some m) p t h = (m, refl, same_Some (as_watch m) (watch_of p t) (held_is (Some (as_watch m)) p t h))
+
+-- a call that is not about a monitor
+abbrev pub Apart : Command → Type 0
+Apart d = ((p q : Pid) → d ≡ Command.Monitor p q → ⊥) × ((p : Pid) (r : Reference) → d ≡ Command.Demonitor p r → ⊥)
+    × ((p : Pid) (y name : Name) → d ≡ Command.MonitorName p y name → ⊥)
 
 module _ (rules : Rules) (X : Work → Type 0) (c : Closed rules X) where
   abbrev AllSaid : List Addressed → Type 0
@@ -173,7 +189,19 @@ module _ (rules : Rules) (X : Work → Type 0) (c : Closed rules X) where
   cond_kept true x y h k = h refl
   cond_kept false x y h k = k refl
 
-  pub item_kept : (y : Name) (i : Item) (o : Work) → Reasons rules X i o → X o → X (take_item y i o)
+  named_kept : (v : Option Pid) (m : Data) (o : Work) → ((p : Pid) → X (put p m o)) → X o → X (take_named v m o)
+  named_kept None m o h k = k
+  named_kept (Some p) m o h k = cond_kept (living o.node p) _ o (λ l. h p) (λ l. k)
+
+  -- MONITOR_P is bound to a process, or its end is told
+  bind_kept : (v : Option Pid) (p : Pid) (t : Target) (r : Reference) (o : Work) → rules.Says (told_end t p r noproc)
+      → ((q : Pid) → v ≡ Some q → living o.node q ≡ true → IsBound (bound p t q) × rules.Joins r (bound p t q)) → X o → X (bind v p t r o)
+  bind_kept None p t r o says joins k = c.posted (told_end t p r noproc) o says k
+  bind_kept (Some q) p t r o says joins k = cond_kept (living o.node q) _ _
+      (λ l. let j = joins q refl l in c.registers r (bound p t q) o l j.0 j.1 k)
+      (λ l. c.posted (told_end t p r noproc) o says k)
+
+  pub item_kept : (y : Name) (i : Item) (o : Work) → Reasons rules X y i o → X o → X (take_item y i o)
   item_kept y (Signalled (Signal.Link q p) pay) o h k = take_link_kept p q (Signals LinkSignal.Link) o (λ e. h.gone p q pay refl) (λ x e. cc) k
   item_kept y (Signalled (Signal.Exit q p x) pay) o h k =
       take_link_kept p q (Exited x) o (λ e. cc) (λ z e. h.acts p q z pay (ap (λ w. Signalled (Signal.Exit q p (reason_in x w)) pay) e)) k
@@ -184,18 +212,30 @@ module _ (rules : Rules) (X : Work → Type 0) (c : Closed rules X) where
   item_kept y (Signalled (Signal.UnlinkId i q p) pay) o h k = take_link_kept p q (Signals (LinkSignal.Unlink i)) o (λ e. cc) (λ x e. cc) k
   item_kept y (Signalled (Signal.UnlinkIdAck i q p) pay) o h k = take_link_kept p q (Signals (LinkSignal.Ack i)) o (λ e. cc) (λ x e. cc) k
   item_kept y (Signalled (Signal.Send p m) pay) o h k = cond_kept (living o.node p) _ o (λ l. h.sent p m pay refl) (λ l. k)
+  item_kept y (Signalled (Signal.RegSend q name m) pay) o h k = named_kept (fm.get o.node.names name) m o (λ p. h.named q p name m pay refl) k
   item_kept y (Signalled (Signal.Exit2 q p x) pay) o h k =
       cond_kept (living o.node p) _ o (λ l. exit_kept (traps_life (fm.get o.node.lives p)) (sent_exit p q x) p o k) (λ l. k)
   item_kept y (Signalled (Signal.Monitor p q r) pay) o h k =
       cond_kept (living o.node q) _ _ (λ l. c.registers r (registration_of p q) o l refl (h.joins p q r pay refl l) k)
       (λ l. c.posted (to_pid p (Signal.MonitorExit q p r noproc)) o (h.nobody p q r pay refl l) k)
+  item_kept y (Signalled (Signal.MonitorName p name r) pay) o h k =
+      bind_kept (fm.get o.node.names name) p (Target.Name name o.node.mint.name) r o (h.nobody_named p name r pay refl)
+      (λ q e l. (tt, h.joins_named p name r pay q refl l)) k
   item_kept y (Signalled (Signal.Demonitor p q r) pay) o h k = cond_kept (is_held as_watch o.node.registered r (pid_watch p q)) _ o
-      (λ l. let e = held_registration (fm.get o.node.registered r) p q l in
+      (λ l. let e = held_registration (fm.get o.node.registered r) p (Target.Pid q) l in
       c.unregisters r e.0 o e.1 (h.drops p q r pay e.0 refl e.1 e.2) k) (λ l. k)
+  item_kept y (Signalled (Signal.DemonitorName p name r) pay) o h k =
+      cond_kept (is_held as_watch o.node.registered r (watch_of p (Target.Name name o.node.mint.name))) _ o
+      (λ l. let e = held_registration (fm.get o.node.registered r) p (Target.Name name o.node.mint.name) l in
+      c.unregisters r e.0 o e.1 (h.drops_named p name r pay e.0 refl e.1 e.2) k) (λ l. k)
   item_kept y (Signalled (Signal.MonitorExit q p r x) pay) o h k =
       cond_kept (living o.node p && is_held itself o.node.watches r (pid_watch p q)) _ o
-      (λ l. let e = held_watch (fm.get o.node.watches r) p q (and_parts (living o.node p) _ l).1 in
+      (λ l. let e = held_watch (fm.get o.node.watches r) p (Target.Pid q) (and_parts (living o.node p) _ l).1 in
       c.ended r (pid_watch p q) x o e (h.tells p q r x pay refl e) k) (λ l. k)
+  item_kept y (Signalled (Signal.MonitorNameExit name p r x) pay) o h k =
+      cond_kept (living o.node p && is_held itself o.node.watches r (watch_of p (Target.Name name y))) _ o
+      (λ l. let e = held_watch (fm.get o.node.watches r) p (Target.Name name y) (and_parts (living o.node p) _ l).1 in
+      c.ended r (watch_of p (Target.Name name y)) x o e (h.tells_named p name r x pay refl e) k) (λ l. k)
   item_kept y (Handshake m) o h k = k
   item_kept y Tick o h k = k
 
@@ -218,9 +258,6 @@ module _ (rules : Rules) (X : Work → Type 0) (c : Closed rules X) where
       (c.end_set p q (End.Pending id) (draw kind.UnlinkId o) (inl l) (c.drew o k)))
   unlink_by_kept _ p q o l k = k
 
-  abbrev pub Apart : Command → Type 0
-  Apart d = ((p q : Pid) → d ≡ Command.Monitor p q → ⊥) × ((p : Pid) (r : Reference) → d ≡ Command.Demonitor p r → ⊥)
-
   module _ (n : Node) (k : X (at_work n)) where
     pub acts_kept : (p q : Pid) (o : Outcome) → (living n p ≡ true → IfGoes o X) → IfGoes (acting n p (toward n q o)) X
     acts_kept p q o h =
@@ -235,10 +272,14 @@ module _ (rules : Rules) (X : Work → Type 0) (c : Closed rules X) where
     call_kept (Command.Send p q m) a s own =
         acts_kept p q _
         (λ l. if_cond (fits m) _ Refusal.TooLong X (λ f. c.posted (to_pid q (Signal.Send q m)) (at_work n) (c.plain (to_pid q (Signal.Send q m)) refl) k))
+    call_kept (Command.SendName p y name m) a s own =
+        if_cond (living n p) _ Refusal.NoSuchProcess X (λ l. if_cond (fits m) _ Refusal.TooLong X
+        (λ f. c.posted (to_node y (Signal.RegSend p name m)) (at_work n) (c.plain (to_node y (Signal.RegSend p name m)) refl) k))
     call_kept (Command.Link p q) a s own = acts_kept p q _ (λ l. cond_kept (same_pid p q) (at_work n) _ (λ e. k)
         (λ e. link_by_kept (end_of n p q) p q (at_work n) l (own p q refl l) k))
     call_kept (Command.Unlink p q) a s own = acts_kept p q _ (λ l. unlink_by_kept (end_of n p q) p q (at_work n) l k)
     call_kept (Command.Monitor p q) a s own = absurd (a.0 p q refl)
+    call_kept (Command.MonitorName p y name) a s own = absurd (a.2 p y name refl)
     call_kept (Command.Demonitor p r) a s own = absurd (a.1 p r refl)
     call_kept (Command.Trap p b) a s own =
         if_cond (living n p) _ Refusal.NoSuchProcess X

@@ -144,27 +144,27 @@ exits_home z f p r (e ∷ es) hp h s =
     own _ j _ i = tt
 
 told_home : (z : Name) (f : Pid → Bool) (t : Target) (o : Pid) (k : Reference) (r : Data) (l : List Addressed) → PostsHome z f l
-    → PostsHome z f (told_end t o k r ++ l)
+    → PostsHome z f (told_end t o k r ∷ l)
 told_home z f (Target.Pid q) o k r l h = (λ h a b n. absurd (n refl), h)
-told_home z f (Target.Name n m) o k r l h = h
+told_home z f (Target.Name n m) o k r l h = (λ h a b n. absurd (n refl), h)
 
 back_home : (z : Name) (f : Pid → Bool) (p : Pid) (t : Target) (k : Reference) (l : List Addressed) → PostsHome z f l
-    → PostsHome z f (taken_back p t k ++ l)
+    → PostsHome z f (taken_back p t k ∷ l)
 back_home z f p (Target.Pid q) k l h = (λ h a b n. absurd (n refl), h)
-back_home z f p (Target.Name n m) k l h = h
+back_home z f p (Target.Name n m) k l h = (λ h a b n. absurd (n refl), h)
 
 pub downs_home : (z : Name) (f : Pid → Bool) (p : Pid) (r : Data) (es : List (Reference × Registration)) → PostsHome z f (monitor_exits p r es)
 downs_home z f p r [] = tt
 downs_home z f p r (e ∷ es) =
     elim (same_pid e.1.held p) as
-    (λ b. PostsHome z f (cond b (told_end e.1.target e.1.owner e.0 r) [] ++ monitor_exits p r es))
+    (λ b. PostsHome z f (cond b (told_end e.1.target e.1.owner e.0 r ∷ []) [] ++ monitor_exits p r es))
     [ true ↦ told_home z f e.1.target e.1.owner e.0 r (monitor_exits p r es) (downs_home z f p r es) | false ↦ downs_home z f p r es ]
 
 pub unwatches_home : (z : Name) (f : Pid → Bool) (p : Pid) (es : List (Reference × Watch)) → PostsHome z f (demonitors p es)
 unwatches_home z f p [] = tt
 unwatches_home z f p (e ∷ es) =
     elim (same_pid e.1.owner p) as
-    (λ b. PostsHome z f (cond b (taken_back p e.1.target e.0) [] ++ demonitors p es))
+    (λ b. PostsHome z f (cond b (taken_back p e.1.target e.0 ∷ []) [] ++ demonitors p es))
     [ true ↦ back_home z f p e.1.target e.0 (demonitors p es) (unwatches_home z f p es) | false ↦ unwatches_home z f p es ]
 
 -- each envelope is on the trunk that is up

@@ -10,7 +10,7 @@ use Rattle.std.specs.FinMap as fm
 use Rattle.dist_model.proofs.Seen.{connected_at, living_at, local_at, side_in}
 use Rattle.dist_model.proofs.Calls.{by_test}
 use Rattle.dist_model.proofs.Deeds.{over_parts}
-use Rattle.dist_model.proofs.Entries.{same_reference_true, same_reference_refl}
+use Rattle.dist_model.proofs.Entries.{IsBoundAs, same_reference_true, same_reference_refl}
 use Rattle.dist_model.proofs.Histories.{Tale}
 use Rattle.dist_model.proofs.Home.{never_own}
 use Rattle.dist_model.proofs.Keys.{same_name_is, same_name_true, same_pid_is}
@@ -18,7 +18,8 @@ use Rattle.dist_model.proofs.WatchKnown.{Away, Enrolled, Followed, HomeKnown, Kn
 use Rattle.dist_model.proofs.Routes.{node_of_name, side_where_none}
 use Rattle.dist_model.proofs.Sides.{beside, beside_up, holds_kinds, side_at, up_holds, up_not_gone}
 use Rattle.dist_model.proofs.Trunks.{has}
-use Rattle.dist_model.proofs.Told.{IsFounded, monitored_one}
+use Rattle.dist_model.proofs.Founded.{IsAsked, named_by}
+use Rattle.dist_model.proofs.Told.{Called, IsFounded, monitored_one}
 use Rattle.dist_model.proofs.Lands.{is_call, is_end}
 use Rattle.dist_model.proofs.Views.{over}
 use Rattle.dist_model.specs.Downs.{Down, Monitored, downs, same_reference}
@@ -50,14 +51,23 @@ module _ (w : World) (h : History) (t : Tale w h) (k : Reference) (p q : Pid) (m
       (subst (λ z. Monitored z a (Target.Pid b) h) (sym (same_reference_true k r e)) c) m in
       let s : b ≡ q = cc in (o.0, s)
 
+  -- a monitor of a pid is none of a name
+  unnamed : (r : Reference) (a : Pid) (name : Name) → same_reference k r ≡ true → IsAsked (Called h) (named_by name) a r → ⊥
+  unnamed r a name e c =
+      let o = monitored_one k a (Target.Name name c.0) p (Target.Pid q) h (t.sound.one k)
+      (subst (λ z. Monitored z a (Target.Name name c.0) h) (sym (same_reference_true k r e)) c.1) m in
+      let s = o.1 in cc
+
   call_of : (i : Item) → IsFounded w h i → is_call k i ≡ true → is_signal_of p q i ≡ true
   call_of (Signalled (Signal.Monitor a b r) pay) f e =
       let o = named r a b e f in ap (λ c. c && same_pid b q) (same_pid_is a p o.0) ∙ same_pid_is b q o.1
+  call_of (Signalled (Signal.MonitorName a name r) pay) f e = absurd (unnamed r a name e f)
   call_of _ f e = cc
 
   end_of : (i : Item) → IsFounded w h i → is_end k i ≡ true → is_signal_of q p i ≡ true
   end_of (Signalled (Signal.MonitorExit b a r z) pay) f e =
       let o = named r a b e f.1 in ap (λ c. c && same_pid a p) (same_pid_is b q o.1) ∙ same_pid_is a p o.0
+  end_of (Signalled (Signal.MonitorNameExit name a r z) pay) f e = absurd (unnamed r a name e f.1)
   end_of _ f e = cc
 
   -- in a silent list nothing of the monitor travels
@@ -83,10 +93,14 @@ module _ (w : World) (h : History) (t : Tale w h) (k : Reference) (p q : Pid) (m
   registered : (y : Node) (b : Registration) → node_of w.nodes q.node ≡ Some y → fm.get y.registered k ≡ Some b → IsRegistered w k p q
   registered y b hy j =
       let v = t.sound.enrolled q.node y k b hy j in
-      let o = named k b.owner b.held (same_reference_refl k) v.1 in
-      let same : b ≡ registration_of p q =
-      λ i. record { owner = o.0 i; target = (v.2 ∙ ap Target.Pid o.1) i; held = o.1 i } in
-      (ap (λ z. living_at z q) hy ∙ subst (λ z. living y z ≡ true) o.1 v.0, ap (λ z. registered_at z k) hy ∙ j ∙ ap Some same)
+      let o = of_pid b.target v.1 v.2 in
+      let same : b ≡ registration_of p q = λ i. record { owner = o.0 i; target = o.1 i; held = o.2 i } in
+      (ap (λ z. living_at z q) hy ∙ subst (λ z. living y z ≡ true) o.2 v.0, ap (λ z. registered_at z k) hy ∙ j ∙ ap Some same)
+    where
+      of_pid : (z : Target) → IsAsked (Called h) z b.owner k → IsBoundAs z b.held → (b.owner ≡ p) × (z ≡ Target.Pid q) × (b.held ≡ q)
+      of_pid (Target.Pid d) c e =
+          let o = named k b.owner d (same_reference_refl k) c in (o.0, ap Target.Pid o.1, sym e ∙ o.1)
+      of_pid (Target.Name name node) c e = absurd (unnamed k b.owner name (same_reference_refl k) c)
 
   module _ (y : Name) (v : Node) (hv : node_of w.nodes y ≡ Some v) (j : fm.get v.watches k ≡ Some (pid_watch p q)) where
     owner_at : p.node ≡ y

@@ -33,16 +33,16 @@ use Rattle.dist_model.specs.Items.{Item, Signalled, telling}
 use Rattle.dist_model.specs.Linking.{exit_follows, link_by, link_new, take_link, take_link_by, unlink_by}
 use Rattle.dist_model.specs.Losses.{any_side, link_to, lose, registered_by, sweep, sweep_by, sweep_end, watch_to}
 use Rattle.dist_model.proofs.Records.{least_as, sweep_link, sweep_registered, sweep_watch}
-use Rattle.dist_model.specs.Monitoring.{demonitor_by, pid_watch, register, registration_of, unregister, unwatch, watch}
+use Rattle.dist_model.specs.Monitoring.{bind, bound, demonitor_by, monitor, pid_watch, register, registration_of, unregister, unwatch, watch}
 use Rattle.dist_model.specs.Names.{Name, place_cmp, same_name, same_pid}
 use Rattle.dist_model.specs.Naming.{NameMap}
 use Rattle.dist_model.specs.NodeEvents.{if_up}
 use Rattle.dist_model.proofs.Envelopes.{Envelope, outgoing, sent_by, sent_in, sent_in-silent}
-use Rattle.dist_model.specs.Node.{Node, end_of, living, is_stranger, reaches, side_where, traps_life, ends_of}
+use Rattle.dist_model.specs.Node.{Node, end_of, living, is_stranger, monitors_names, reaches, side_where, traps_life, ends_of}
 use Rattle.dist_model.specs.Runs.{Always, opening}
 use Rattle.dist_model.specs.Sides.{AwaitsStatus, is_gone, is_losing, TrunkSide, Accepting, Gone}
-use Rattle.dist_model.specs.Taking.{take_item}
-use Rattle.dist_model.specs.Work.{Addressed, Work, at_work, draw, post, post_all, put, report, set_end, spelled, to_pid}
+use Rattle.dist_model.specs.Taking.{take_item, take_named}
+use Rattle.dist_model.specs.Work.{Addressed, Work, at_work, draw, post, post_all, put, report, set_end, spelled, to_node, to_pid}
 use Rattle.dist_model.specs.declared.report.Effect.{Effect}
 use Rattle.dist_model.specs.World.{Arrive, Call, Dial, Event, Local, Lose, Start, Stop, Sweep}
 use Rattle.dist_model.specs.World.{World, came_of, list_to, node_name, node_of, set_node, step_at}
@@ -55,14 +55,14 @@ use Rattle.erl_term.specs.Data.{Data, atom, pid}
 use Rattle.erl_term.specs.declared.refusal.Refusal.{Refusal}
 use Rattle.erl_term.specs.declared.term.Pid.{Pid}
 use Rattle.erl_term.specs.declared.term.Reference.{Reference}
-use Rattle.exit_core.specs.Messages.{down_term, exit_term}
+use Rattle.exit_core.specs.Messages.{down_term, exit_term, named_term}
 use Rattle.exit_core.specs.Reaction.{is_atom, reaction}
 use Rattle.exit_core.specs.declared.reaction.ExitSignal.{ExitSignal}
 use Rattle.exit_core.specs.declared.reaction.Reaction.{Reaction}
 use Rattle.link_core.specs.News.{Exited, LinkNews, Signals, heard, noconnection, noproc, reply}
 use Rattle.link_core.specs.declared.end.End.{End}
 use Rattle.link_core.specs.declared.end.LinkSignal.{LinkSignal}
-use Rattle.monitor_core.specs.Monitors.{as_watch, is_held, itself}
+use Rattle.monitor_core.specs.Monitors.{as_watch, is_held, itself, target_node, watch_of}
 use Rattle.erl_handshake.specs.Roles.{send_name}
 use Rattle.erl_term.specs.Canonical.{canonical_atom}
 use Rattle.std.proofs.lemmas.Option.{same_Some, none-some}
@@ -71,7 +71,7 @@ use Rattle.dist_model.specs.Sides.{untold}
 use Rattle.monitor_core.specs.declared.monitor.Target.{Target}
 use Rattle.monitor_core.specs.declared.monitor.Watch.{Watch}
 use Rattle.monitor_core.specs.declared.monitor.Registration.{Registration}
-use Rattle.dist_model.specs.Telling.{object, taken_back, told_end}
+use Rattle.dist_model.specs.Telling.{asked, demonitor_signal, monitor_exit_signal, monitor_signal, object, taken_back, told_end}
 
 abbrev pub Sendable : Item → Type 0
 Sendable (Signalled s pay) = IsSendable s
@@ -142,23 +142,33 @@ exits_sendable p x (e ∷ es) f = All-append One (exit_for p x e.0 e.1) (exits p
     go End.Active = one_or_none true (to_pid e.0 (Signal.Exit p e.0 x)) (tt, f)
     go _ = All-nil One
 
-told_sendable : (b : Bool) (t : Target) (o : Pid) (k : Reference) (x : Data) → Fits x → AllSendable (cond b (told_end t o k x) [])
-told_sendable true (Target.Pid q) o k x f = one_or_none true (to_pid o (Signal.MonitorExit q o k x)) (tt, f)
-told_sendable _ _ o k x f = All-nil One
+exit_sendable : (t : Target) (o : Pid) (k : Reference) (x : Data) → Fits x → IsSendable (monitor_exit_signal t o k x)
+exit_sendable (Target.Pid q) o k x f = (tt, f)
+exit_sendable (Target.Name name node) o k x f = (tt, f)
 
-back_sendable : (b : Bool) (p : Pid) (t : Target) (k : Reference) → AllSendable (cond b (taken_back p t k) [])
-back_sendable true p (Target.Pid q) k = one_or_none true (to_pid q (Signal.Demonitor p q k)) (tt, tt)
-back_sendable _ p _ k = All-nil One
+told_sendable : (b : Bool) (t : Target) (o : Pid) (k : Reference) (x : Data) → Fits x → AllSendable (cond b (told_end t o k x ∷ []) [])
+told_sendable b t o k x f = one_or_none b (told_end t o k x) (exit_sendable t o k x f)
+
+take_back_sendable : (p : Pid) (t : Target) (k : Reference) → IsSendable (demonitor_signal p t k)
+take_back_sendable p (Target.Pid q) k = (tt, tt)
+take_back_sendable p (Target.Name name node) k = (tt, tt)
+
+back_sendable : (b : Bool) (p : Pid) (t : Target) (k : Reference) → AllSendable (cond b (taken_back p t k ∷ []) [])
+back_sendable b p t k = one_or_none b (taken_back p t k) (take_back_sendable p t k)
+
+ask_sendable : (p : Pid) (t : Target) (k : Reference) → IsSendable (monitor_signal p t k)
+ask_sendable p (Target.Pid q) k = (tt, tt)
+ask_sendable p (Target.Name name node) k = (tt, tt)
 
 monitor_exits_sendable : (p : Pid) (x : Data) (es : List (Reference × Registration)) → Fits x → AllSendable (monitor_exits p x es)
 monitor_exits_sendable p x [] f = All-nil One
-monitor_exits_sendable p x (e ∷ es) f = All-append One (cond (same_pid e.1.held p) (told_end e.1.target e.1.owner e.0 x) [])
+monitor_exits_sendable p x (e ∷ es) f = All-append One (cond (same_pid e.1.held p) (told_end e.1.target e.1.owner e.0 x ∷ []) [])
     (monitor_exits p x es)
     (told_sendable (same_pid e.1.held p) e.1.target e.1.owner e.0 x f) (monitor_exits_sendable p x es f)
 
 demonitors_sendable : (p : Pid) (es : List (Reference × Watch)) → AllSendable (demonitors p es)
 demonitors_sendable p [] = All-nil One
-demonitors_sendable p (e ∷ es) = All-append One (cond (same_pid e.1.owner p) (taken_back p e.1.target e.0) []) (demonitors p es)
+demonitors_sendable p (e ∷ es) = All-append One (cond (same_pid e.1.owner p) (taken_back p e.1.target e.0 ∷ []) []) (demonitors p es)
     (back_sendable (same_pid e.1.owner p) p e.1.target e.0) (demonitors_sendable p es)
 
 finished : (p : Pid) (x : Data) (o : Work) → Fits x → X o → X (end_process p x o)
@@ -210,6 +220,20 @@ link_taken p q s o h k = go (living o.node p)
         (carried_all Sendable (λ s pay c. c) (replies p q (reply false s)) o1 (replied false p q s h) (same o o1 refl refl k))
     go false = carried_all Sendable (λ s pay c. c) (replies p q (reply true s)) o (replied true p q s h) k
 
+named_bound : (v : Option Pid) (p : Pid) (name y : Name) (r : Reference) (o : Work) → X o → X (bind v p (Target.Name name y) r o)
+named_bound v p name y r o k = go v
+  where
+    tells : X (post (told_end (Target.Name name y) p r noproc) o)
+    tells = posted (told_end (Target.Name name y) p r noproc) o (tt, noproc_fits) k
+
+    go : (v : Option Pid) → X (bind v p (Target.Name name y) r o)
+    go None = tells
+    go (Some q) = either (living o.node q) _ _ (same o (register r (bound p (Target.Name name y) q) o) refl refl k) tells
+
+named_taken : (v : Option Pid) (m : Data) (o : Work) → X o → X (take_named v m o)
+named_taken None m o k = k
+named_taken (Some p) m o k = either (living o.node p) (put p m o) o (silent o (put p m o) (Effect.Put p m) refl refl refl k) k
+
 taken : (y : Name) (i : Item) (o : Work) → Sendable i → X o → X (take_item y i o)
 taken y (Signalled (Signal.Link q p) pay) o h k = link_taken p q (Signals LinkSignal.Link) o h k
 taken y (Signalled (Signal.Exit q p x) pay) o h k = link_taken p q (Exited x) o h k
@@ -217,10 +241,18 @@ taken y (Signalled (Signal.UnlinkId i q p) pay) o h k = link_taken p q (Signals 
 taken y (Signalled (Signal.UnlinkIdAck i q p) pay) o h k = link_taken p q (Signals (LinkSignal.Ack i)) o h k
 taken y (Signalled (Signal.Send p m) pay) o h k = either (living o.node p) (put p m o) o
     (silent o (put p m o) (Effect.Put p m) refl refl refl k) k
+taken y (Signalled (Signal.RegSend q name m) pay) o h k = named_taken (fm.get o.node.names name) m o k
 taken y (Signalled (Signal.Exit2 q p x) pay) o h k = either (living o.node p) _ o
     (reacted (traps_life (fm.get o.node.lives p)) (sent_exit p q x) p o h.1 k) k
 taken y (Signalled (Signal.Monitor p q r) pay) o h k = either (living o.node q) _ _ (same o (register r (registration_of p q) o) refl refl k)
     (posted (to_pid p (Signal.MonitorExit q p r noproc)) o (tt, noproc_fits) k)
+taken y (Signalled (Signal.MonitorName p name r) pay) o h k = named_bound (fm.get o.node.names name) p name o.node.mint.name r o k
+taken y (Signalled (Signal.DemonitorName p name r) pay) o h k =
+    either (is_held as_watch o.node.registered r (watch_of p (Target.Name name o.node.mint.name))) (unregister r o) o
+    (same o (unregister r o) refl refl k) k
+taken y (Signalled (Signal.MonitorNameExit name p r x) pay) o h k =
+    either (living o.node p && is_held itself o.node.watches r (watch_of p (Target.Name name y))) _ o
+    (silent o (put p (down_term r (named_term name y) x) (unwatch r o)) (Effect.Put p (down_term r (named_term name y) x)) refl refl refl k) k
 taken y (Signalled (Signal.Demonitor p q r) pay) o h k = either (is_held as_watch o.node.registered r (pid_watch p q)) (unregister r o) o
     (same o (unregister r o) refl refl k) k
 taken y (Signalled (Signal.MonitorExit q p r x) pay) o h k = either (living o.node p && is_held itself o.node.watches r (pid_watch p q)) _ o
@@ -247,8 +279,7 @@ unlinked_by _ p q o k = k
 demonitored : (v : Option Watch) (p : Pid) (r : Reference) (o : Work) → X o → IfGoes (demonitor_by v p r o) X
 demonitored None p r o k = tt
 demonitored (Some v) p r o k = if_cond (same_pid v.owner p) _ Refusal.NotTheOwner X
-    (λ e. carried_all Sendable (λ s pay c. c) (taken_back p v.target r) (unwatch r o) (back_sendable true p v.target r)
-    (same o (unwatch r o) refl refl k))
+    (λ e. posted (taken_back p v.target r) (unwatch r o) (take_back_sendable p v.target r) (same o (unwatch r o) refl refl k))
 
 module _ (n : Node) (k : X (at_work n)) where
   acted : (p q : Pid) (o : Outcome) → IfGoes o X → IfGoes (acting n p (toward n q o)) X
@@ -264,18 +295,24 @@ module _ (n : Node) (k : X (at_work n)) where
   renamed : (m : NameMap) → X (with_names n m)
   renamed m = record { local = k.local; sent = k.sent }
 
+  monitored : (p : Pid) (t : Target) (id : ℕ) → X (monitor (reference_of n.mint id) p t (draw kind.Reference (at_work n)))
+  monitored p t id =
+      let r = reference_of n.mint id in
+      let o1 = draw kind.Reference (at_work n) in
+      either (reaches n (target_node t)) _ (put p (down_term r (object t) noconnection) o1)
+      (posted (asked p t r) (watch r (watch_of p t) o1) (ask_sendable p t r)
+      (same (at_work n) (watch r (watch_of p t) o1) refl refl k))
+      (same (at_work n) (put p (down_term r (object t) noconnection) o1) refl refl k)
+
   called : (c : Command) → IfGoes (call n c) X
   called Command.Spawn = if_drawn (id_of n.mint kind.Pid) _ X (λ id h. record { local = k.local; sent = k.sent })
   called (Command.Send p q m) = acted p q _ (fitted m _ (λ f. posted (to_pid q (Signal.Send q m)) (at_work n) (tt, f) k))
+  called (Command.SendName p y name m) = by_living p _ (fitted m _ (λ f. posted (to_node y (Signal.RegSend p name m)) (at_work n) (tt, f) k))
   called (Command.Link p q) = acted p q _ (either (same_pid p q) (at_work n) _ k (linked_by (end_of n p q) p q (at_work n) k))
   called (Command.Unlink p q) = acted p q _ (unlinked_by (end_of n p q) p q (at_work n) k)
-  called (Command.Monitor p q) = acted p q _ (if_drawn (id_of n.mint kind.Reference) _ X (λ id h.
-      let r = reference_of n.mint id in
-      let o1 = draw kind.Reference (at_work n) in
-      either (reaches n q.node) _ (put p (down_term r (pid q) noconnection) o1)
-      (posted (to_pid q (Signal.Monitor p q r)) (watch r (pid_watch p q) o1) (tt, tt)
-      (same (at_work n) (watch r (pid_watch p q) o1) refl refl k))
-      (same (at_work n) (put p (down_term r (pid q) noconnection) o1) refl refl k)))
+  called (Command.Monitor p q) = acted p q _ (if_drawn (id_of n.mint kind.Reference) _ X (λ id h. monitored p (Target.Pid q) id))
+  called (Command.MonitorName p y name) = by_living p _ (if_cond (monitors_names n y) _ Refusal.NotOffered X
+      (λ f. if_drawn (id_of n.mint kind.Reference) _ X (λ id h. monitored p (Target.Name name y) id)))
   called (Command.Demonitor p r) = by_living p _ (demonitored (fm.get n.watches r) p r (at_work n) k)
   called (Command.Trap p b) = by_living p _ (record { local = k.local; sent = k.sent })
   called (Command.ExitTo p q x) = acted p q _ (fitted x _ (λ f. posted (to_pid q (Signal.Exit2 p q x)) (at_work n) (tt, f) k))

@@ -297,6 +297,7 @@ Nameless a o = IsName a → ⊥
 other_kind : (i : Item) → handshake_in i ≡ None → IsName (Answer.Took (kind_of i)) → ⊥
 other_kind (Handshake m) h e = absurd (none-some m (sym h))
 other_kind (Signalled (Signal.Send p m) pay) h e = cc
+other_kind (Signalled (Signal.RegSend q name m) pay) h e = cc
 other_kind (Signalled _ pay) h e = cc
 other_kind _ h e = cc
 

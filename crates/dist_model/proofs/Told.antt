@@ -8,12 +8,12 @@ use Rattle.std.specs.FinMap as fm
 use Rattle.std.specs.FinMap.{FinMap}
 use Rattle.dist_model.proofs.Envelopes.{Envelope, outgoing}
 use Rattle.dist_model.proofs.Calls.{by_name}
-use Rattle.dist_model.proofs.Founded.{Carried, EndedBefore, Founded, OffNow, carried_lists, founded_by}
+use Rattle.dist_model.proofs.Founded.{Carried, EndedBefore, Founded, IsAsked, OffNow, asked_by, carried_lists, founded_by}
 use Rattle.dist_model.proofs.HomeMonitors.{TargetsIn}
 use Rattle.dist_model.proofs.Routes.{node_of_set_other, node_of_set_same}
 use Rattle.dist_model.proofs.Lands.{down}
 use Rattle.dist_model.proofs.Views.{over}
-use Rattle.dist_model.specs.Causes.{HasEnded, TrueCause}
+use Rattle.dist_model.specs.Causes.{CauseOf, HasEnded}
 use Rattle.dist_model.specs.declared.report.Answer.{Answer}
 use Rattle.dist_model.specs.declared.command.Command.{Command}
 use Rattle.dist_model.specs.Downs.{Demonitored, Down, IsCallOf, Monitored, answers, downs, downs_by, is_answered, is_demonitored}
@@ -48,8 +48,8 @@ Old w h q x = HasEnded q x h ⊎ ((x ≡ noproc) × Dead w q)
 abbrev pub Off : World → History → Reference → Type 0
 Off w h k = (1 ≤ answers k h) × ((v : Node) → node_of w.nodes k.node ≡ Some v → fm.get v.watches k ≡ None)
 
-abbrev pub Called : History → Pid → Pid → Reference → Type 0
-Called h p q k = Monitored k p (Target.Pid q) h
+abbrev pub Called : History → Pid → Target → Reference → Type 0
+Called h p t k = Monitored k p t h
 
 abbrev pub IsFounded : World → History → Item → Type 0
 IsFounded w h = Founded (Old w h) (Called h) (Off w h)
@@ -67,7 +67,7 @@ pub record Sound (w : World) (h : History) : Type 0 where
   pub locals : (y : Name) (v : Node) → node_of w.nodes y ≡ Some v → All (IsFounded w h) v.local
   pub homes : (y : Name) (v : Node) → node_of w.nodes y ≡ Some v → All (TargetsIn (λ q. is_stranger v q ≡ false)) v.local
   pub enrolled : (y : Name) (v : Node) (k : Reference) (u : Registration) → node_of w.nodes y ≡ Some v
-      → fm.get v.registered k ≡ Some u → (living v u.held ≡ true) × Monitored k u.owner (Target.Pid u.held) h × IsBound u
+      → fm.get v.registered k ≡ Some u → (living v u.held ≡ true) × IsAsked (Called h) u.target u.owner k × IsBound u
   pub one : (k : Reference) → answers k h ≤ 1
   pub drawn : (k : Reference) → 1 ≤ answers k h → (v : Node) × (node_of w.nodes k.node ≡ Some v) × Drawn v k
   pub unanswered : (k : Reference) → answers k h ≡ 0 → (downs k h ≡ []) × (Demonitored k h → ⊥)
@@ -80,17 +80,6 @@ pub record Sound (w : World) (h : History) : Type 0 where
   pub waits : (k : Reference) (p q : Pid) → Monitored k p (Target.Pid q) h → downs k h ≡ [] → (Demonitored k h → ⊥)
       → ((v : Node) × (node_of w.nodes k.node ≡ Some v) × (fm.get v.watches k ≡ Some (pid_watch p q))) ⊎ Dead w p
 
--- no call names a target by its name
-pub unnamed : (k : Reference) (p : Pid) (name node : Name) (h : History) → Monitored k p (Target.Name name node) h → ⊥
-unnamed k p name node [] m = absurd m
-unnamed k p name node (e ∷ h) (inl m) = absurd m.0
-unnamed k p name node (e ∷ h) (inr m) = unnamed k p name node h m
-
--- so the target is a pid
-pub named_pid : (k : Reference) (p : Pid) (t : Target) (h : History) → Monitored k p t h → (q : Pid) × (t ≡ Target.Pid q)
-named_pid k p (Target.Pid q) h m = (q, refl)
-named_pid k p (Target.Name name node) h m = absurd (unnamed k p name node h m)
-
 pub monitored_answered : (k : Reference) (p : Pid) (q : Target) (h : History) → Monitored k p q h → 1 ≤ answers k h
 monitored_answered k p q [] m = absurd m
 monitored_answered k p q (e ∷ h) (inl m) =
@@ -102,8 +91,18 @@ one_call : (p a : Pid) (q b : Target) (e : Event) → IsCallOf p q e → IsCallO
 one_call p a (Target.Pid q) (Target.Pid b) e m n =
     let same : Call p.node (Command.Monitor p q) ≡ Call a.node (Command.Monitor a b) = sym m ∙ n in
     let x : p ≡ a = cc in let y : q ≡ b = cc in (x, ap Target.Pid y)
-one_call p a (Target.Name name node) b e m n = absurd m
-one_call p a (Target.Pid q) (Target.Name name node) e m n = absurd n
+one_call p a (Target.Name name node) (Target.Name other at) e m n =
+    let same : Call p.node (Command.MonitorName p node name) ≡ Call a.node (Command.MonitorName a at other) = sym m ∙ n in
+    let x : p ≡ a = cc in let y : name ≡ other = cc in let z : node ≡ at = cc in (x, λ i. Target.Name (y i) (z i))
+one_call p a (Target.Name name node) (Target.Pid b) e m n =
+    let same : Call p.node (Command.MonitorName p node name) ≡ Call a.node (Command.Monitor a b) = sym m ∙ n in cc
+one_call p a (Target.Pid q) (Target.Name name node) e m n =
+    let same : Call p.node (Command.Monitor p q) ≡ Call a.node (Command.MonitorName a node name) = sym m ∙ n in cc
+
+-- the same target, but for the node of a name
+abbrev pub IsAlike : Target → Target → Type 0
+IsAlike (Target.Pid q) b = Target.Pid q ≡ b
+IsAlike (Target.Name name node) b = (other : Name) × (Target.Name name other ≡ b)
 
 -- a reference that was answered once names one owner and one target
 pub monitored_one : (k : Reference) (p : Pid) (q : Target) (a : Pid) (b : Target) (h : History) → answers k h ≤ 1
@@ -118,20 +117,12 @@ monitored_one k p q a b (e ∷ h) o (inr m) (inl n) =
     absurd (omega (arith, monitored_answered k p q h m))
 monitored_one k p q a b (e ∷ h) o (inr m) (inr n) = monitored_one k p q a b h (omega arith) m n
 
--- of a pid
-pub pid_in : Pid → Target → Pid
-pid_in p (Target.Pid q) = q
-pid_in p (Target.Name name node) = p
-
--- why a DOWN of this target is true. A target with a name has none
-abbrev pub CauseOf : History → World → Pid → Target → Data → Type 0
-CauseOf h w p (Target.Pid q) x = TrueCause h w p q x
-CauseOf h w p (Target.Name name node) x = ⊥
-
-pub cause_of_pid : (h : History) (w : World) (p : Pid) (t : Target) (x : Data) → CauseOf h w p t x
-    → (q : Pid) × (t ≡ Target.Pid q) × TrueCause h w p q x
-cause_of_pid h w p (Target.Pid q) x c = (q, refl, c)
-cause_of_pid h w p (Target.Name name node) x c = absurd c
+-- the call of a signal or a registration names the owner and the target of the watch
+pub asked_one : (k : Reference) (t : Target) (p a : Pid) (b : Target) (h : History) → answers k h ≤ 1
+    → IsAsked (Called h) t p k → Monitored k a b h → (p ≡ a) × IsAlike t b
+asked_one k (Target.Pid q) p a b h o m n = let v = monitored_one k p (Target.Pid q) a b h o m n in (v.0, v.1)
+asked_one k (Target.Name name node) p a b h o m n =
+    let v = monitored_one k p (Target.Name name m.0) a b h o m.1 n in (v.0, (m.0, v.1))
 
 -- how an event treats one reference
 pub data Course (w : World) (h : History) (n : Node) (x : Name) (e : Event) (r : Report) (o : Work) (k : Reference) : Type 0 where
@@ -143,13 +134,21 @@ pub data Course (w : World) (h : History) (n : Node) (x : Name) (e : Event) (r :
   Downs : (u : Watch) (z : Data) → fm.get n.watches k ≡ Some u → fm.get o.node.watches k ≡ None
       → CauseOf h w u.owner u.target z → downs_by k e r ≡ down u z ∷ [] → is_answered k e r ≡ false
       → is_demonitored k e r ≡ false → Course w h n x e r o k
-  Begins : (p q : Pid) → e ≡ Call p.node (Command.Monitor p q) → is_answered k e r ≡ true → is_demonitored k e r ≡ false
+  Begins : (p : Pid) (t : Target) → IsCallOf p t e → is_answered k e r ≡ true → is_demonitored k e r ≡ false
       → k.node ≡ x → (Drawn n k → ⊥) → Drawn o.node k → living o.node p ≡ true
-      → ((fm.get o.node.watches k ≡ Some (pid_watch p q))
-      × (downs_by k e r ≡ [])) ⊎ ((fm.get o.node.watches k ≡ fm.get n.watches k) × (z : Data) × TrueCause h w p q z
-      × (downs_by k e r ≡ down (pid_watch p q) z ∷ [])) → Course w h n x e r o k
+      → ((fm.get o.node.watches k ≡ Some (watch_of p t))
+      × (downs_by k e r ≡ [])) ⊎ ((fm.get o.node.watches k ≡ fm.get n.watches k) × (z : Data) × CauseOf h w p t z
+      × (downs_by k e r ≡ down (watch_of p t) z ∷ [])) → Course w h n x e r o k
   Revoked : (u : Watch) → fm.get n.watches k ≡ Some u → fm.get o.node.watches k ≡ None → downs_by k e r ≡ []
       → is_answered k e r ≡ false → is_demonitored k e r ≡ true → Course w h n x e r o k
+
+-- a monitor that was called for before the event, or in it
+abbrev pub CalledNow : History → Event → Answer → Work → Pid → Target → Reference → Type 0
+CalledNow h e a o p t k = Monitored k p t ((record { event = e; report = Reported a o.effects }) ∷ h)
+
+-- one that is over, or ended in the event
+abbrev pub OffAfter : World → History → Node → Work → Reference → Type 0
+OffAfter w h n o = OffNow n (Old w h) (λ p q z. Unit {0}) (Called h) (Off w h) o
 
 -- what an event at x leaves
 pub record Deed (w : World) (h : History) (x : Name) (n : Node) (e : Event) (a : Answer) (o : Work) : Type 0 where
@@ -157,11 +156,10 @@ pub record Deed (w : World) (h : History) (x : Name) (n : Node) (e : Event) (a :
   pub nevers : (p : Pid) → is_stranger n p ≡ false → is_stranger o.node p ≡ false
   pub grows : (p : Pid) → over n p ≡ true → over o.node p ≡ true
   pub carries : Carried (Founded (EndedBefore n (Old w h) (λ p q z. Unit {0}) (Called h) (Off w h) o)
-      (λ p q k. Monitored k p (Target.Pid q) ((record { event = e; report = Reported a o.effects }) ∷ h))
-      (OffNow n (Old w h) (λ p q z. Unit {0}) (Called h) (Off w h) o)) o
+      (CalledNow h e a o) (OffAfter w h n o)) o
   pub homes : All (TargetsIn (λ q. is_stranger o.node q ≡ false)) o.node.local
   pub enrolled : (k : Reference) (u : Registration) → fm.get o.node.registered k ≡ Some u → (living o.node u.held ≡ true)
-      × Monitored k u.owner (Target.Pid u.held) h × IsBound u
+      × IsAsked (Called h) u.target u.owner k × IsBound u
   pub owners : (k : Reference) (u : Watch) → fm.get o.node.watches k ≡ Some u → living o.node u.owner ≡ true
   pub drawn : (k : Reference) → Drawn n k → Drawn o.node k
   pub course : (k : Reference) → Course w h n x e (Reported a o.effects) o k
@@ -269,7 +267,7 @@ module _ (w : World) (h : History) (x : Name) (n : Node) (hx : node_of w.nodes x
       subst (λ l. length l ≤ 1) (sym (two k (down u z ∷ []) [] dn (g.watching x n k u hx b).2)) (omega arith)
   c_most k (Begins p q ev i r kx nd dr l (inl c)) = subst (λ l. length l ≤ 1) (sym (two k [] [] c.1 (begun_downs k kx nd))) (omega arith)
   c_most k (Begins p q ev i r kx nd dr l (inr c)) =
-      subst (λ l. length l ≤ 1) (sym (two k (down (pid_watch p q) c.1 ∷ []) [] c.3 (begun_downs k kx nd))) (omega arith)
+      subst (λ l. length l ≤ 1) (sym (two k (down (watch_of p q) c.1 ∷ []) [] c.3 (begun_downs k kx nd))) (omega arith)
   c_most k (Revoked u b c dn i r) = subst (λ l. length l ≤ 1) (sym (two k [] (downs k h) dn refl)) (g.most k)
 
   more_names : (k : Reference) → All (IsNamed k h) (downs k h) → All (IsNamed k happened) (downs k h)
@@ -288,8 +286,8 @@ module _ (w : World) (h : History) (x : Name) (n : Node) (hx : node_of w.nodes x
   c_names k (Begins p q ev i r kx nd dr l (inl c)) =
       subst (λ l. All (IsNamed k happened) l) (sym (two k [] [] c.1 (begun_downs k kx nd))) (All-nil (IsNamed k happened))
   c_names k (Begins p q ev i r kx nd dr l (inr c)) =
-      subst (λ l. All (IsNamed k happened) l) (sym (two k (down (pid_watch p q) c.1 ∷ []) [] c.3 (begun_downs k kx nd)))
-      (one_name k (pid_watch p q) c.1 (inl (ev, i)))
+      subst (λ l. All (IsNamed k happened) l) (sym (two k (down (watch_of p q) c.1 ∷ []) [] c.3 (begun_downs k kx nd)))
+      (one_name k (watch_of p q) c.1 (inl (ev, i)))
   c_names k (Revoked u b c dn i r) = subst (λ l. All (IsNamed k happened) l) (sym (two k [] (downs k h) dn refl)) (more_names k (g.names k))
 
   c_after : (k : Reference) → C k → Demonitored k happened → downs k happened ≡ []
@@ -310,7 +308,7 @@ module _ (w : World) (h : History) (x : Name) (n : Node) (hx : node_of w.nodes x
   c_here k u (Leaves u2 b c l ux dn i r) j = absurd (no_watch _ u c j)
   c_here k u (Downs u2 z b c t dn i r) j = absurd (no_watch _ u c j)
   c_here k u (Begins p q ev i r kx nd dr l (inl c)) j =
-      let same : pid_watch p q ≡ u = same_Some (pid_watch p q) u (sym c.0 ∙ j) in (
+      let same : watch_of p q ≡ u = same_Some (watch_of p q) u (sym c.0 ∙ j) in (
         kx,
         subst (λ (v : Watch). Monitored k v.owner v.target happened) same (inl (ev, i)),
         two k [] [] c.1 (begun_downs k kx nd),
@@ -364,10 +362,10 @@ module _ (w : World) (h : History) (x : Name) (n : Node) (hx : node_of w.nodes x
   c_waits k p q (Downs u z b c t c2 i r) m dn nr =
       let y : down u z ∷ [] ≡ [] = sym (two k (down u z ∷ []) [] c2 (g.watching x n k u hx b).2) ∙ dn in cc
   c_waits k p q (Begins p2 q2 ev i r kx nd dr l (inl c)) m dn nr =
-      let one = monitored_one k p2 (Target.Pid q2) p (Target.Pid q) happened (c_one k (Begins p2 q2 ev i r kx nd dr l (inl c))) (inl (ev, i)) m in
+      let one = monitored_one k p2 q2 p (Target.Pid q) happened (c_one k (Begins p2 q2 ev i r kx nd dr l (inl c))) (inl (ev, i)) m in
       inl (o.node, at_x k.node (sym kx), c.0 ∙ (λ j. Some (watch_of (one.0 j) (one.1 j))))
   c_waits k p q (Begins p2 q2 ev i r kx nd dr l (inr c)) m dn nr =
-      let y : down (pid_watch p2 q2) c.1 ∷ [] ≡ [] = sym (two k (down (pid_watch p2 q2) c.1 ∷ []) [] c.3 (begun_downs k kx nd)) ∙ dn in cc
+      let y : down (watch_of p2 q2) c.1 ∷ [] ≡ [] = sym (two k (down (watch_of p2 q2) c.1 ∷ []) [] c.3 (begun_downs k kx nd)) ∙ dn in cc
   c_waits k p q (Revoked u b c c2 i r) m dn nr = absurd (nr (inl r))
 
   -- ---- what travels
@@ -431,6 +429,9 @@ module _ (w : World) (h : History) (x : Name) (n : Node) (hx : node_of w.nodes x
 
   -- ---- and so in the world after
 
+  asked_later : (k : Reference) (u : Registration) → IsAsked (Called h) u.target u.owner k → IsAsked (Called happened) u.target u.owner k
+  asked_later k u = asked_by (Called h) (Called happened) (λ p t r m. inr m) u.target u.owner k
+
   pub sound_after : (m : FinMap place_cmp (List Item)) → ((t : TrunkId) (y : Name) → All (IsFounded w h) (list_to m t y))
       → Sound (after m) happened
   sound_after m ml = record {
@@ -446,8 +447,8 @@ module _ (w : World) (h : History) (x : Name) (n : Node) (hx : node_of w.nodes x
         (λ i. g.homes y v (sym (elsewhere y i) ∙ hv));
     enrolled = λ y v k u hv j. by_name _ x y
         (λ i. let r = d.enrolled k u (ap (λ (z : Node). fm.get z.registered k) (here_after y v i hv) ∙ j) in
-        (ap (λ (z : Node). living z u.held) (sym (here_after y v i hv)) ∙ r.0, inr r.1, r.2))
-        (λ i. let r = g.enrolled y v k u (sym (elsewhere y i) ∙ hv) j in (r.0, inr r.1, r.2));
+        (ap (λ (z : Node). living z u.held) (sym (here_after y v i hv)) ∙ r.0, asked_later k u r.1, r.2))
+        (λ i. let r = g.enrolled y v k u (sym (elsewhere y i) ∙ hv) j in (r.0, asked_later k u r.1, r.2));
     one = λ k. c_one k (d.course k);
     drawn = λ k. c_drawn k (d.course k);
     unanswered = λ k. c_unanswered k (d.course k);

@@ -13,7 +13,7 @@ use Rattle.dist_model.proofs.Routes.{at_place, list_to_carried, node_of_name}
 use Rattle.dist_model.proofs.Sides.{holds, route_up, side_at, up_holds}
 use Rattle.dist_model.proofs.Trunks.{Good, has, partners}
 use Rattle.dist_model.proofs.Told.{Begins, Course, Downs, Leaves, Off, Revoked, Sound, Stays}
-use Rattle.dist_model.proofs.Told.{at_x, elsewhere, monitored_one, Drawn, monitored_answered}
+use Rattle.dist_model.proofs.Told.{asked_one, at_x, elsewhere, Drawn, monitored_answered}
 use Rattle.dist_model.proofs.Lands.{Lands, has_first, has_last, is_call, is_end}
 use Rattle.dist_model.proofs.Home.{never_own}
 use Rattle.dist_model.specs.declared.report.Answer.{Answer}
@@ -97,11 +97,13 @@ module _ (w : World) (h : History) (x : Name) (n : Node) (hx : node_of w.nodes x
     (Head : TrunkId → (Item → Bool) → Type 0) (pop : (f : Item → Bool) (t : TrunkId) (y : Name)
     → has f (list_to w.lists t y) ≡ true → (has f (list_to m t y) ≡ true) ⊎ ((y ≡ x) × Head t f))
     (took_end : (t : TrunkId) (k : Reference) (u : Watch) → Head t (is_end k) → fm.get n.watches k ≡ Some u
-    → fm.get o.node.watches k ≡ Some u → (b : TrunkSide) → side_at o.node t ≡ Some b → is_over b.state ≡ true)
+    → fm.get o.node.watches k ≡ Some u → (c : TrunkSide) → side_at n t ≡ Some c → c.peer ≡ target_node u.target
+    → (b : TrunkSide) → side_at o.node t ≡ Some b → is_over b.state ≡ true)
     (took_call : (t : TrunkId) (k : Reference) (y : Name) (v : Node) (u : Watch) → Head t (is_call k) → (x ≡ y → ⊥)
     → node_of w.nodes y ≡ Some v → fm.get v.watches k ≡ Some u → (target_node u.target) ≡ x → TakenCall o t y k)
     (HeadHome : (Item → Bool) → Type 0) (pop_home : (f : Item → Bool) → has f n.local ≡ true → (has f xs ≡ true) ⊎ HeadHome f)
-    (home_end : (k : Reference) (u : Watch) → HeadHome (is_end k) → fm.get n.watches k ≡ Some u → fm.get o.node.watches k ≡ Some u → ⊥)
+    (home_end : (k : Reference) (u : Watch) → HeadHome (is_end k) → same_name (target_node u.target) n.mint.name ≡ true
+    → fm.get n.watches k ≡ Some u → fm.get o.node.watches k ≡ Some u → ⊥)
     (home_call : (k : Reference) (u : Watch) → HeadHome (is_call k) → fm.get n.watches k ≡ Some u
     → ((b : Registration) × (fm.get o.node.registered k ≡ Some b)) ⊎ (has (is_end k) o.node.local ≡ true))
     (fresh : (k : Reference) (u : Watch) → fm.get n.watches k ≡ None → fm.get o.node.watches k ≡ Some u → NewWatch n o k u) where
@@ -118,11 +120,11 @@ module _ (w : World) (h : History) (x : Name) (n : Node) (hx : node_of w.nodes x
       → has f (list_to (carried m o.effects) t y) ≡ true
   sends f t y i = ap (has f) (list_to_carried m o.effects t y) ∙ has_last f (list_to m t y) (at_place t y (outgoing o)) i
 
-  -- a watch of before names one owner and one target
+  -- a watch of before names one owner
   the_one : (y : Name) (v : Node) (k : Reference) (u : Watch) (b : Registration) → node_of w.nodes y ≡ Some v → fm.get v.watches k ≡ Some u
-      → fm.get n.registered k ≡ Some b → (b.owner ≡ u.owner) × (Target.Pid b.held ≡ u.target)
+      → fm.get n.registered k ≡ Some b → b.owner ≡ u.owner
   the_one y v k u b hv i j =
-      monitored_one k b.owner (Target.Pid b.held) u.owner u.target h (g.one k) (g.enrolled x n k b hx j).1 (g.watching y v k u hv i).1
+      (asked_one k b.target b.owner u.owner u.target h (g.one k) (g.enrolled x n k b hx j).1 (g.watching y v k u hv i).1).0
 
   not_off : (y : Name) (v : Node) (k : Reference) (u : Watch) → node_of w.nodes y ≡ Some v → fm.get v.watches k ≡ Some u → Off w h k → ⊥
   not_off y v k u hv i f = none-some u (sym (f.1 v (subst (λ z. node_of w.nodes z ≡ Some v) (sym (g.watching y v k u hv i).0) hv)) ∙ i)
@@ -150,7 +152,7 @@ module _ (w : World) (h : History) (x : Name) (n : Node) (hx : node_of w.nodes x
     where
       owned : same_name c.0.owner.node n.mint.name ≡ true
       owned = same_name_is c.0.owner.node n.mint.name
-          (ap (λ (z : Pid). z.node) (the_one x n k u c.0 hx i c.1).0 ∙ owner_at w h gw g x n k u hx i ∙ sym nx)
+          (ap (λ (z : Pid). z.node) (the_one x n k u c.0 hx i c.1) ∙ owner_at w h gw g x n k u hx i ∙ sym nx)
 
       go : (fm.get o.node.registered k ≡ Some c.0)
           ⊎ ((Lands (is_end k) n c.0.owner.node o ⊎ (Off w h k ⊎ (reaches n c.0.owner.node ≡ false))) ⊎ AllOver o.node)
@@ -168,7 +170,7 @@ module _ (w : World) (h : History) (x : Name) (n : Node) (hx : node_of w.nodes x
 
       go : (has (is_end k) xs ≡ true) ⊎ HeadHome (is_end k) → HomeKnown o.node k
       go (inl s) = stay (d.local (is_end k) s)
-      go (inr s) = absurd (home_end k u s i j)
+      go (inr s) = absurd (home_end k u s own i j)
 
   away_here : (k : Reference) (u : Watch) → fm.get n.watches k ≡ Some u → fm.get o.node.watches k ≡ Some u
       → same_name (target_node u.target) n.mint.name ≡ false → Away w x n k u → Away W x o.node k u
@@ -195,7 +197,7 @@ module _ (w : World) (h : History) (x : Name) (n : Node) (hx : node_of w.nodes x
       returns : (has (is_end k) (list_to m c.trunk x) ≡ true) ⊎ ((x ≡ x) × Head c.trunk (is_end k))
           → (is_over s.side.state ≡ true) ⊎ Known W c.trunk x (target_node u.target) k
       returns (inl z) = inr (Returns (lasts (is_end k) c.trunk x z))
-      returns (inr z) = inl (took_end c.trunk k u z.1 i j s.side s.there)
+      returns (inr z) = inl (took_end c.trunk k u z.1 i j c.side c.there c.peer s.side s.there)
 
       travels : (has (is_call k) (list_to m c.trunk (target_node u.target)) ≡ true) ⊎ (((target_node u.target) ≡ x) × Head c.trunk (is_call k))
           → (is_over s.side.state ≡ true) ⊎ Known W c.trunk x (target_node u.target) k
@@ -282,7 +284,7 @@ module _ (w : World) (h : History) (x : Name) (n : Node) (hx : node_of w.nodes x
         peer_back = (partners w gw.core y x v n c.trunk c.side s hv hx c.there hs (λ z. dy (sym z))).1
 
         owner_node : b.owner.node ≡ y
-        owner_node = ap (λ (z : Pid). z.node) (the_one y v k u b hv i r).0 ∙ owner_at w h gw g y v k u hv i
+        owner_node = ap (λ (z : Pid). z.node) (the_one y v k u b hv i r) ∙ owner_at w h gw g y v k u hv i
 
         routed : route n b.owner.node ≡ Some c.trunk
         routed = ap (route n) (owner_node ∙ sym peer_back) ∙ route_up n c.trunk s (gw.core.sides x n hx) hs up

@@ -34,13 +34,13 @@ use Rattle.dist_model.proofs.Records.{has_records, least_as, sweep_link, sweep_r
 use Rattle.dist_model.proofs.Truths.{nothing}
 use Rattle.dist_model.specs.Losses.{any_side, link_to, lose, lose_at, released_by, release_parked}
 use Rattle.dist_model.specs.Losses.{registered_by, sweep, sweep_by, sweep_end, close_if_swept, watch_to}
-use Rattle.dist_model.specs.Monitoring.{demonitor_by, pid_watch, unwatch, watch}
+use Rattle.dist_model.specs.Monitoring.{demonitor_by, monitor, unwatch, watch}
 use Rattle.dist_model.specs.Names.{Name, place_cmp, same_name, same_pid}
-use Rattle.dist_model.specs.Node.{Node, end_of, living, is_stranger, reaches, side_where}
+use Rattle.dist_model.specs.Node.{Node, end_of, living, is_stranger, monitors_names, reaches, side_where}
 use Rattle.dist_model.specs.Seen.{end_between}
 use Rattle.dist_model.specs.Sides.{Accepting, Asked, AwaitsAck, AwaitsChallenge, AwaitsStatus, Gone, Losing, Parked}
 use Rattle.dist_model.specs.Sides.{State, TrunkSide, Up, is_dialing, is_gone, is_losing, is_parked, is_up, is_waiting}
-use Rattle.dist_model.specs.Work.{Work, at_work, draw, post_all, set_end, spelled, to_pid}
+use Rattle.dist_model.specs.Work.{Work, at_work, draw, post, set_end, spelled, to_pid}
 use Rattle.dist_model.specs.World.{Arrive, Call, Dial, Event, Local, Lose, Refused, Report, Start}
 use Rattle.dist_model.specs.World.{Stop, Sweep, World, came_of, node_name, node_of, step, step_at}
 use Rattle.erl_control.specs.declared.signal.Signal.{Signal}
@@ -64,10 +64,11 @@ use Rattle.std.specs.FinMap.{FinMap}
 use Rattle.dist_model.proofs.HeldActive.{reacts_in, reacts, told, Calm, calm_send, calm_post, calm_put}
 use Rattle.dist_model.proofs.HeldActive.{calm_finish, exit_of, Held, held_at, calm_cond, item_taken}
 use Rattle.erl_handshake.specs.Roles.{introduction_by}
+use Rattle.monitor_core.specs.Monitors.{target_node, watch_of}
 use Rattle.monitor_core.specs.declared.monitor.Target.{Target}
 use Rattle.monitor_core.specs.declared.monitor.Watch.{Watch}
 use Rattle.monitor_core.specs.declared.monitor.Registration.{Registration}
-use Rattle.dist_model.specs.Telling.{object, taken_back}
+use Rattle.dist_model.specs.Telling.{asked, object, taken_back}
 
 -- calls
 on_drawn : (o : Option ℕ) (k : ℕ → Outcome) (P : Work → Type 0) → ((id : ℕ) → IfGoes (k id) P) → IfGoes (with_id o k) P
@@ -114,9 +115,17 @@ module _ (n : Node) where
       (set_end a b (End.Pending id) (draw kind.UnlinkId (at_work n))) p q h))
   unlinks_on _ a b = λ p q h. nothing h
 
-  calm_back : (t : Target) (a : Pid) (k : Reference) (o : Work) → Calm o (post_all (taken_back a t k) o)
-  calm_back (Target.Pid q) a k o = calm_post q.node (Signalled (Signal.Demonitor a q k) false) o
-  calm_back (Target.Name name node) a k o = λ p q h. h
+  calm_back : (t : Target) (a : Pid) (k : Reference) (o : Work) → Calm o (post (taken_back a t k) o)
+  calm_back t a k o = calm_post (target_node t) (spelled o.node (taken_back a t k)) o
+
+  calm_monitor : (t : Target) (a : Pid) (count : ℕ)
+      → Calm (draw kind.Reference (at_work n)) (monitor (reference_of n.mint count) a t (draw kind.Reference (at_work n)))
+  calm_monitor t a count =
+      let k = reference_of n.mint count in
+      let o = draw kind.Reference (at_work n) in
+      calm_cond (reaches n (target_node t)) o _ _
+      (calm_post (target_node t) (spelled n (asked a t k)) (watch k (watch_of a t) o))
+      (calm_put a (down_term k (object t) noconnection) o)
 
   demonitors_on : (v : Option Watch) (a : Pid) (k : Reference)
       → IfGoes (demonitor_by v a k (at_work n)) (OwnLink n (Command.Demonitor a k))
@@ -130,14 +139,20 @@ module _ (n : Node) where
   called (Command.Send a b t) =
       acts_on (Command.Send a b t) a b _ (λ l. if_cond (fits t) _ Refusal.TooLong (OwnLink n (Command.Send a b t))
       (λ i p q h. nothing (calm_post b.node (Signalled (Signal.Send b t) false) (at_work n) p q h)))
+  called (Command.SendName a y name t) =
+      if_cond (living n a) _ Refusal.NoSuchProcess (OwnLink n (Command.SendName a y name t))
+      (λ l. if_cond (fits t) _ Refusal.TooLong (OwnLink n (Command.SendName a y name t))
+      (λ i p q h. nothing (calm_post y (Signalled (Signal.RegSend a name t) false) (at_work n) p q h)))
   called (Command.Link a b) = acts_on (Command.Link a b) a b _ (λ l. link_cond (same_pid a b) a b l)
   called (Command.Unlink a b) = acts_on (Command.Unlink a b) a b _ (λ l. unlinks_on (end_of n a b) a b)
   called (Command.Monitor a b) =
       acts_on (Command.Monitor a b) a b _ (λ l. on_drawn (id_of n.mint kind.Reference) _ (OwnLink n (Command.Monitor a b))
-      (λ count p q h. nothing (calm_cond (reaches n b.node) (at_work n) _ _
-      (calm_post b.node (Signalled (Signal.Monitor a b (reference_of n.mint count)) false)
-      (watch (reference_of n.mint count) (pid_watch a b) (draw kind.Reference (at_work n))))
-      (calm_put a (down_term (reference_of n.mint count) (pid b) noconnection) (draw kind.Reference (at_work n))) p q h)))
+      (λ count p q h. nothing (calm_monitor (Target.Pid b) a count p q h)))
+  called (Command.MonitorName a y name) =
+      if_cond (living n a) _ Refusal.NoSuchProcess (OwnLink n (Command.MonitorName a y name))
+      (λ l. if_cond (monitors_names n y) _ Refusal.NotOffered (OwnLink n (Command.MonitorName a y name))
+      (λ f. on_drawn (id_of n.mint kind.Reference) _ (OwnLink n (Command.MonitorName a y name))
+      (λ count p q h. nothing (calm_monitor (Target.Name name y) a count p q h))))
   called (Command.Demonitor a k) =
       if_cond (living n a) _ Refusal.NoSuchProcess (OwnLink n (Command.Demonitor a k)) (λ l. demonitors_on (fm.get n.watches k) a k)
   called (Command.Trap a b) = if_cond (living n a) _ Refusal.NoSuchProcess (OwnLink n (Command.Trap a b)) (λ l p q h. nothing h)

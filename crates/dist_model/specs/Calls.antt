@@ -13,14 +13,15 @@ use Rattle.dist_model.specs.Linking.{link, unlink_by}
 use Rattle.dist_model.specs.Monitoring.{demonitor_by, monitor}
 use Rattle.dist_model.specs.Names.{Name, same_name}
 use Rattle.dist_model.specs.Naming.{NameMap, name_of, without_holder}
-use Rattle.dist_model.specs.Node.{Life, Living, Node, end_of, ends_of, living, is_stranger}
-use Rattle.dist_model.specs.Work.{Work, at_work, draw, post, set_life, to_pid}
+use Rattle.dist_model.specs.Node.{Life, Living, Node, end_of, ends_of, living, is_stranger, monitors_names}
+use Rattle.dist_model.specs.Work.{Work, at_work, draw, post, set_life, to_node, to_pid}
 use Rattle.erl_control.specs.declared.signal.Signal.{Signal}
 use Rattle.erl_names.specs.Ids.{pid_of, reference_of}
 use Rattle.erl_names.specs.Minted.{drawn, id_of}
 use Rattle.erl_term.specs.Data.{Data}
 use Rattle.erl_term.specs.declared.refusal.Refusal.{Refusal}
 use Rattle.erl_term.specs.declared.term.Pid.{Pid}
+use Rattle.monitor_core.specs.declared.monitor.Target.{Target}
 
 -- the acting process has to be living here
 abbrev pub acting : Node → Pid → Outcome → Outcome
@@ -32,6 +33,10 @@ toward node q outcome = if same_name q.node node.mint.name && is_stranger node q
 
 abbrev pub fitting : Data → Outcome → Outcome
 fitting term outcome = if fits term then outcome else Refuses Refusal.TooLong
+
+-- a node that is connected has to offer monitors by name, and so has this one
+abbrev pub offering : Node → Name → Outcome → Outcome
+offering node name outcome = if monitors_names node name then outcome else Refuses Refusal.NotOffered
 
 abbrev pub spawn_life : Node → Pid → Work
 spawn_life node p = at_work (record node { mint = drawn node.mint kind.Pid; lives = fm.insert node.lives p (Living false []) })
@@ -76,10 +81,16 @@ call node Command.Spawn = with_id (id_of node.mint kind.Pid) (λ id.
     Accepts (Answer.Pid (pid_of node.mint id)) (spawn_life node (pid_of node.mint id)))
 call node (Command.Send p q message) =
     acting node p (toward node q (fitting message (Accepts Answer.Done (post (to_pid q (Signal.Send q message)) (at_work node)))))
+call node (Command.SendName p target name message) =
+    acting node p (fitting message (Accepts Answer.Done (post (to_node target (Signal.RegSend p name message)) (at_work node))))
 call node (Command.Link p q) = acting node p (toward node q (Accepts Answer.Done (link p q (at_work node))))
 call node (Command.Unlink p q) = acting node p (toward node q (unlink_by (end_of node p q) p q (at_work node)))
 call node (Command.Monitor p q) = acting node p (toward node q (with_id (id_of node.mint kind.Reference) (λ count.
-    let r = reference_of node.mint count in Accepts (Answer.Reference r) (monitor r p q (draw kind.Reference (at_work node))))))
+    let r = reference_of node.mint count in
+    Accepts (Answer.Reference r) (monitor r p (Target.Pid q) (draw kind.Reference (at_work node))))))
+call node (Command.MonitorName p target name) = acting node p (offering node target (with_id (id_of node.mint kind.Reference) (λ count.
+    let r = reference_of node.mint count in
+    Accepts (Answer.Reference r) (monitor r p (Target.Name name target) (draw kind.Reference (at_work node))))))
 call node (Command.Demonitor p r) = acting node p (demonitor_by (fm.get node.watches r) p r (at_work node))
 call node (Command.Trap p on) = acting node p (Accepts Answer.Done (with_life node p (trapping (fm.get node.lives p) on)))
 call node (Command.ExitTo p q reason) =

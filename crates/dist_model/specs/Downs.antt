@@ -21,9 +21,10 @@ same_reference r s = eq_by_cmp reference_cmp r s
 
 -- ---- the calls
 
--- a Monitor call was answered with this reference
+-- a Monitor or MonitorName call was answered with this reference
 abbrev pub is_answered : Reference → Event → Report → Bool
 is_answered r (Call node (Command.Monitor p q)) (Reported (Answer.Reference s) effects) = same_reference r s
+is_answered r (Call node (Command.MonitorName p target name)) (Reported (Answer.Reference s) effects) = same_reference r s
 is_answered r _ _ = false
 
 -- how often
@@ -31,10 +32,10 @@ abbrev pub answers : Reference → History → ℕ
 answers r [] = 0
 answers r (last ∷ before) = (if is_answered r last.event last.report then 1 else 0) + answers r before
 
--- it is the call by which p monitors the target. No call names a target by its name
+-- it is the call by which p monitors the target
 abbrev pub IsCallOf : Pid → Target → Event → Type 0
 IsCallOf p (Target.Pid q) event = event ≡ Call p.node (Command.Monitor p q)
-IsCallOf p (Target.Name name node) event = ⊥
+IsCallOf p (Target.Name name node) event = event ≡ Call p.node (Command.MonitorName p node name)
 
 -- p monitors the target under it
 abbrev pub Monitored : Reference → Pid → Target → History → Type 0
@@ -85,6 +86,7 @@ downs_in r (effect ∷ rest) = downs_in r rest
 -- what a process sent may have that form too. It is a message and no DOWN
 abbrev pub is_sent_message : Answer → Bool
 is_sent_message (Answer.Took Kind.Send) = true
+is_sent_message (Answer.Took Kind.RegSend) = true
 is_sent_message _ = false
 
 abbrev pub takes_message : Event → Report → Bool

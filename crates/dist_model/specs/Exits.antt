@@ -34,12 +34,12 @@ exits p reason = flat_map (λ link. exit_for p reason link.0 link.1)
 -- MONITOR_P_EXIT to the owner of each monitor that is bound to it
 abbrev pub monitor_exits : Pid → Data → List (Reference × Registration) → List Addressed
 monitor_exits p reason = flat_map (λ entry.
-    if same_pid entry.1.held p then told_end entry.1.target entry.1.owner entry.0 reason else [])
+    if same_pid entry.1.held p then told_end entry.1.target entry.1.owner entry.0 reason ∷ [] else [])
 
 -- DEMONITOR_P for each of its own monitors
 abbrev pub demonitors : Pid → List (Reference × Watch) → List Addressed
 demonitors p = flat_map (λ entry.
-    if same_pid entry.1.owner p then taken_back p entry.1.target entry.0 else [])
+    if same_pid entry.1.owner p then taken_back p entry.1.target entry.0 ∷ [] else [])
 
 -- its mailbox, its name and its records go, and it keeps its reason
 abbrev pub buried : Pid → Data → Work → Work

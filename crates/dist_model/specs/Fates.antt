@@ -1,7 +1,7 @@
 -- What holds of every world and of all that happened before it: the exits of links, and the monitors.
 use Rattle.std.specs.Prelude.{◌≡◌, ◌⊎◌, ◌≤◌, Bool, true, false, Option, None, Some, [], Contains, length}
 use Rattle.std.specs.FinMap as fm
-use Rattle.dist_model.specs.Causes.{Reacts, TrueCause}
+use Rattle.dist_model.specs.Causes.{CauseOf, Reacts, TrueCause}
 use Rattle.dist_model.specs.declared.command.Command.{Command}
 use Rattle.dist_model.specs.Downs.{Demonitored, Down, Monitored, answers, downs, downs_by}
 use Rattle.dist_model.specs.Histories.{History}
@@ -45,7 +45,7 @@ ExitsTellTrueCauseWithin history world = (name : Name) (p q : Pid) (reason : Dat
 
 -- ---- Monitors. (Reference Manual, Processes, Monitors)
 
--- a reference is the answer of at most one Monitor call
+-- a reference is the answer of at most one Monitor or MonitorName call
 abbrev pub AnsweredOnce : History → World → Type 0
 AnsweredOnce history world = (r : Reference) → answers r history ≤ 1
 
@@ -53,7 +53,7 @@ AnsweredOnce history world = (r : Reference) → answers r history ≤ 1
 abbrev pub DownOnce : History → World → Type 0
 DownOnce history world = (r : Reference) → length (downs r history) ≤ 1
 
--- to the process that made the call, for the target that it named: a pid whole, and so the incarnation
+-- to the process that made the call, for the target that it named: a pid whole, and so the incarnation, or a name and its node
 abbrev pub DownToTheOwner : History → World → Type 0
 DownToTheOwner history world = (r : Reference) (down : Down) → Contains (downs r history) down
     → Monitored r down.owner down.target history
@@ -65,7 +65,7 @@ NoDownWhereDemonitored history world = (r : Reference) → Demonitored r history
 -- the info of each DOWN that a report tells is true
 abbrev pub DownsRightly : History → World → Event → Report → Type 0
 DownsRightly history world event report = (r : Reference) (down : Down) → Contains (downs_by r event report) down
-    → (q : Pid) × (down.target ≡ Target.Pid q) × TrueCause history world down.owner q down.info
+    → CauseOf history world down.owner down.target down.info
 
 -- so with whatever comes next
 abbrev pub DownsTellTrueCause : History → World → Type 0

@@ -22,6 +22,7 @@ abbrev pub has_reason : Signal → Bool
 has_reason (Signal.Exit from to reason) = true
 has_reason (Signal.Exit2 from to reason) = true
 has_reason (Signal.MonitorExit from to r reason) = true
+has_reason (Signal.MonitorNameExit name to r reason) = true
 has_reason _ = false
 
 -- the signal by which p tells q news of their link
@@ -49,11 +50,15 @@ news p q = flat_map (news_in p q)
 abbrev pub kind_of : Item → Kind
 kind_of (Signalled (Signal.Link from to) payload) = Kind.Link
 kind_of (Signalled (Signal.Send to message) payload) = Kind.Send
+kind_of (Signalled (Signal.RegSend from name message) payload) = Kind.RegSend
 kind_of (Signalled (Signal.Exit from to reason) payload) = Kind.Exit
 kind_of (Signalled (Signal.Exit2 from to reason) payload) = Kind.Exit2
 kind_of (Signalled (Signal.Monitor from to r) payload) = Kind.Monitor
+kind_of (Signalled (Signal.MonitorName from name r) payload) = Kind.Monitor
 kind_of (Signalled (Signal.Demonitor from to r) payload) = Kind.Demonitor
+kind_of (Signalled (Signal.DemonitorName from name r) payload) = Kind.Demonitor
 kind_of (Signalled (Signal.MonitorExit from to r reason) payload) = Kind.MonitorExit
+kind_of (Signalled (Signal.MonitorNameExit name to r reason) payload) = Kind.MonitorExit
 kind_of (Signalled (Signal.UnlinkId id from to) payload) = Kind.Unlink
 kind_of (Signalled (Signal.UnlinkIdAck id from to) payload) = Kind.UnlinkAck
 kind_of (Handshake (ShakeMsg.SendName flags creation name)) = Kind.SendName

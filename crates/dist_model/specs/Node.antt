@@ -112,3 +112,12 @@ payload_on node (Some trunk) = has_payload node trunk
 
 abbrev pub payload_to : Node → Name → Bool
 payload_to node name = not (same_name name node.mint.name) && payload_on node (route node name)
+
+-- with None no connection is up, and neither node is asked
+abbrev pub monitors_names_on : Node → Option TrunkId → Bool
+monitors_names_on node None = true
+monitors_names_on node (Some trunk) = both_offer Flag.DistMonitorName node (fm.get node.sides trunk)
+
+-- a process may monitor one of that node by its name. (ERTS User's Guide, Distribution Protocol, Distribution Flags, DFLAG_DIST_MONITOR_NAME)
+abbrev pub monitors_names : Node → Name → Bool
+monitors_names node name = same_name name node.mint.name || monitors_names_on node (route node name)

@@ -1,5 +1,6 @@
 //! The commands of a caller to a node.
 
+use erl_names::NodeName;
 use erl_term::{Atom, Payload, Pid, Reference};
 
 /// A request of a caller to a node. `Receive`, `LinksOf`, `IsAlive` and `WhereIs` look at a node from
@@ -15,6 +16,17 @@ pub enum Command {
         from: Pid,
         /// The process that gets the message.
         to: Pid,
+        /// The message.
+        message: Payload,
+    },
+    /// A process sends a message to the process that has a name at a node, as by `{Name, Node} ! Message`.
+    SendName {
+        /// The process that sends.
+        from: Pid,
+        /// The node, which need not be known or connected.
+        node: NodeName,
+        /// The registered name.
+        name: Atom,
         /// The message.
         message: Payload,
     },
@@ -38,6 +50,15 @@ pub enum Command {
         owner: Pid,
         /// The process that is monitored.
         target: Pid,
+    },
+    /// A process monitors the process that has a name at a node, as by `monitor(process, {Name, Node})`.
+    MonitorName {
+        /// The process that monitors.
+        owner: Pid,
+        /// The node, which need not be known or connected.
+        node: NodeName,
+        /// The registered name.
+        name: Atom,
     },
     /// A process ends a monitor of its own, as by `demonitor/1`.
     Demonitor {

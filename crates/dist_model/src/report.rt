@@ -24,6 +24,8 @@ pub enum Kind {
     Link,
     /// SEND.
     Send,
+    /// REG_SEND.
+    RegSend,
     /// EXIT.
     Exit,
     /// EXIT2.

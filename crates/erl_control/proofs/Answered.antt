@@ -19,7 +19,7 @@ use Rattle.erl_control.specs.Parts.{signal_in}
 use Rattle.erl_control.specs.Reading.{IsRowHead, AreBefore, IsBefore, IsFollowedText, tag_of, arity_of, AreFields, HasFields, IsText, HasNoText}
 use Rattle.erl_control.proofs.Sequence.{split_pair}
 use Rattle.erl_control.proofs.Table.{shape, unshape, control_row, control_unrow, row_head, row_unhead, before_from, before_to, before_followed}
-use Rattle.erl_control.proofs.Rows.{with_message, told_signal, told_id, followed_id}
+use Rattle.erl_control.proofs.Rows.{with_message, told_signal, told_id}
 use Rattle.erl_control.proofs.Arms.{lying}
 
 -- ---- the text of a signal

@@ -6,8 +6,8 @@ use Rattle.erl_control.specs.Control.{Carries, Fits, IsFit, IsSendable, control_
 use Rattle.erl_control.specs.Frame.{IsFramed, SpellsMessage, IsSignalText}
 use Rattle.erl_control.specs.declared.signal.Item.TheVariants.{Signal as SignalItem}
 use Rattle.erl_control.specs.declared.signal.Signal.{Signal}
-use Rattle.erl_control.specs.declared.signal.Signal.TheVariants.{Send, Exit, Exit2}
-use Rattle.erl_control.specs.declared.signal.Signal.TheVariants.{MonitorExit}
+use Rattle.erl_control.specs.declared.signal.Signal.TheVariants.{Send, RegSend, Exit, Exit2}
+use Rattle.erl_control.specs.declared.signal.Signal.TheVariants.{MonitorExit, MonitorNameExit}
 use Rattle.erl_term.specs.Canonical.{IsInRange}
 use Rattle.erl_term.specs.Spelling.{IsSpelling}
 use Rattle.erl_term.proofs.InRange.{spelled_in_range}
@@ -21,6 +21,7 @@ carried s text r short fit = by s r.payload r.spelled r.told fit
     by : (s : Signal) (payload : Bool) → IsSpelling 64 (control_in r.unused s payload) r.control
         → SpellsMessage (message_in s payload) r.message → Carries IsFit s → Carries Fits s
     by (Send to message) payload c m f = (spelled_in_range 64 message r.message m lens.1, f.0, f.1)
+    by (RegSend from name message) payload c m f = (spelled_in_range 64 message r.message m lens.1, f.0, f.1)
     by (Exit from to reason) false c m f =
         let all : IsInRange (control_in r.unused (Exit from to reason) false) = spelled_in_range 64 _ r.control c lens.0 in
         (all.1.1.1.1.0, f.0, f.1)
@@ -33,6 +34,10 @@ carried s text r short fit = by s r.payload r.spelled r.told fit
         let all : IsInRange (control_in r.unused (MonitorExit from to reference reason) false) = spelled_in_range 64 _ r.control c lens.0 in
         (all.1.1.1.1.1.0, f.0, f.1)
     by (MonitorExit from to reference reason) true c m f = (spelled_in_range 64 reason r.message m lens.1, f.0, f.1)
+    by (MonitorNameExit name to reference reason) false c m f =
+        let all : IsInRange (control_in r.unused (MonitorNameExit name to reference reason) false) = spelled_in_range 64 _ r.control c lens.0 in
+        (all.1.1.1.1.1.0, f.0, f.1)
+    by (MonitorNameExit name to reference reason) true c m f = (spelled_in_range 64 reason r.message m lens.1, f.0, f.1)
     by _ payload c m f = tt
 
 pub framed_sendable : (s : Signal) (b : List ℕ) → IsFramed (SignalItem s) b → IsSendable s

@@ -1,16 +1,22 @@
 -- Readers in a row.
-use Rattle.std.proofs.Common.{◌≡◌, ℕ, ◌^◌, ◌<◌, ◌≤◌, List, [], ◌∷◌, ◌++◌, length, Bool, true, false, ◌-◌, take, drop, get_or}
+use Rattle.std.proofs.Common.{◌≡◌, ℕ, zero, suc, ◌^◌, ◌<◌, ◌≤◌, List, [], ◌∷◌, ◌++◌, length, Bool, true, false, ◌-◌, take, drop, get_or}
 use Rattle.std.proofs.Common.{rules, nat_abs, Option, Some, None, Bor, refl, sym, ap, subst, ◌∙◌, append_assoc, arith}
 use Rattle.std.proofs.lemmas.List.{take_all}
 use Rattle.std.specs.Prelude.{ℤ, pos, negsuc, ◌==◌}
 use Rattle.std.proofs.lemmas.Bool.{eqb-true}
 use Rattle.std.proofs.lemmas.Int.{ints}
 use Rattle.std.specs.Int.{w64, FitsUnsigned}
-use Rattle.erl_term.specs.Data.{Data, int}
+use Rattle.erl_term.specs.declared.term.Pid.{Pid}
+use Rattle.erl_term.specs.Data.{Data, int, atom, pid}
 use Rattle.erl_term.specs.Spelling.{Spells, IsSpelling}
 use Rattle.erl_term.specs.declared.parts.TupleHead.{TupleHead}
 use Rattle.erl_term.specs.Parts.{ReadsFront, IsTupleHead}
-use Rattle.erl_control.specs.Reading.{IsPair, IsOpening, IsNaturalText, IsRowHead, IsIdText}
+use Rattle.erl_term.specs.Reading.{read_term}
+use Rattle.erl_term.proofs.Base.{ok_is}
+use Rattle.erl_term.proofs.Table.{Reads-term}
+use Rattle.erl_control.specs.declared.fields.TargetRef.{TargetRef}
+use Rattle.erl_control.specs.declared.fields.TargetRef.TheVariants.{Pid as ByPid, Name as ByName}
+use Rattle.erl_control.specs.Reading.{IsPair, IsOpening, IsNaturalText, IsRowHead, IsIdText, IsPidText, IsNameText, IsTargetText}
 
 both_are : {A B : Type 0} (a : A) (b : B) (x : A × B) → a ≡ x.0 → b ≡ x.1 → (a, b) ≡ x
 both_are a b x p q = ap (λ u. (u, b)) p ∙ ap (λ v. (x.0, v)) q
@@ -183,6 +189,52 @@ id_some levels bytes x r lt = record {
   takes = record { text = r.takes.text; is_text = ((lt, r.takes.is_text.0), r.takes.is_text.1); parts = r.takes.parts };
   again = λ j text rest s p. r.again j text rest (s.0.1, s.1) p;
 }
+
+-- ---- a pid or a name
+
+-- one term stands at the front of any bytes
+one_term : (levels : ℕ) (t u : Data) (a b x y : List ℕ) → Spells levels t a → Spells levels u b → a ++ x ≡ b ++ y → t ≡ u
+one_term zero t u a b x y s r e = absurd s
+one_term (suc n) t u a b x y s r e =
+    let read = Reads-term (suc n) (omega arith) in
+    let both : (t, x) ≡ (u, y) = ok_is _ _ (sym (read.again t a x s) ∙ ap (read_term (suc n)) e ∙ read.again u b y r) in
+    ap (λ (z : Data × List ℕ). z.0) both
+
+no_pid_and_name : (levels : ℕ) (p : Pid) (name a b x y : List ℕ) → IsPidText levels p a → IsNameText levels name b → a ++ x ≡ b ++ y → ⊥
+no_pid_and_name levels p name a b x y s r e =
+    let same : pid p ≡ atom name = one_term levels (pid p) (atom name) a b x y s r e in cc
+
+module _ (levels : ℕ) (bytes : List ℕ) where
+  pub target_pid : (x : Pid × Bor (List ℕ)) → ReadsFront (IsPidText levels) bytes (Some x)
+      → ReadsFront (IsTargetText levels) bytes (Some (ByPid x.0, x.1))
+  target_pid x r = record {
+    takes = record { text = r.takes.text; is_text = r.takes.is_text; parts = r.takes.parts };
+    again = λ y text rest t p. by y text rest t p;
+  }
+    where
+      by : (y : TargetRef) (text rest : List ℕ) → IsTargetText levels y text → bytes ≡ text ++ rest → (ByPid x.0 ≡ y) × (x.1.now ≡ rest)
+      by (ByPid q) text rest t p = let k = r.again q text rest t p in (ap (λ (z : Pid). ByPid z) k.0, k.1)
+      by (ByName n) text rest t p =
+          absurd (no_pid_and_name levels x.0 n r.takes.text text x.1.now rest r.takes.is_text t (sym r.takes.parts ∙ p))
+
+  pub target_name : (x : List ℕ × Bor (List ℕ)) → ReadsFront (IsPidText levels) bytes None → ReadsFront (IsNameText levels) bytes (Some x)
+      → ReadsFront (IsTargetText levels) bytes (Some (ByName x.0, x.1))
+  target_name x r q = record {
+    takes = record { text = q.takes.text; is_text = q.takes.is_text; parts = q.takes.parts };
+    again = λ y text rest t p. by y text rest t p;
+  }
+    where
+      by : (y : TargetRef) (text rest : List ℕ) → IsTargetText levels y text → bytes ≡ text ++ rest → (ByName x.0 ≡ y) × (x.1.now ≡ rest)
+      by (ByPid p) text rest t e = absurd (r.again p text rest t e)
+      by (ByName n) text rest t e = let k = q.again n text rest t e in (ap (λ (z : List ℕ). ByName z) k.0, k.1)
+
+  pub target_none : ReadsFront (IsPidText levels) bytes None → ReadsFront (IsNameText levels) bytes None
+      → ReadsFront (IsTargetText levels) bytes None
+  target_none r q = record { takes = tt; again = λ y text rest t p. by y text rest t p }
+    where
+      by : (y : TargetRef) (text rest : List ℕ) → IsTargetText levels y text → bytes ≡ text ++ rest → ⊥
+      by (ByPid p) text rest t e = r.again p text rest t e
+      by (ByName n) text rest t e = q.again n text rest t e
 
 -- ---- another view of what is read
 

@@ -4,17 +4,20 @@ use Rattle.std.proofs.lemmas.List.{append-nil}
 use Rattle.std.specs.Prelude.{pos}
 use Rattle.erl_term.specs.declared.term.Pid.{Pid}
 use Rattle.erl_term.specs.declared.term.Reference.{Reference}
-use Rattle.erl_term.specs.Data.{Data, int, tuple, pid, reference, Items, no_items, item, count}
+use Rattle.erl_term.specs.Data.{Data, int, atom, tuple, pid, reference, Items, no_items, item, count}
 use Rattle.erl_term.specs.Spelling.{SpellAll, Spells, IsSpelling}
 use Rattle.erl_term.proofs.Behind.{head_of, tuple_opened, tuple_closed}
 use Rattle.erl_control.specs.declared.signal.Signal.{Signal}
-use Rattle.erl_control.specs.declared.signal.Signal.TheVariants.{Link, Send, Exit, Exit2, Monitor, Demonitor}
+use Rattle.erl_control.specs.declared.signal.Signal.TheVariants.{Link, Send, RegSend, Exit, Exit2, Monitor, Demonitor}
 use Rattle.erl_control.specs.declared.signal.Signal.TheVariants.{MonitorExit, UnlinkId, UnlinkIdAck}
+use Rattle.erl_control.specs.declared.signal.Signal.TheVariants.{MonitorName, DemonitorName, MonitorNameExit}
+use Rattle.erl_control.specs.declared.fields.TargetRef.{TargetRef}
+use Rattle.erl_control.specs.declared.fields.TargetRef.TheVariants.{Pid as ByPid, Name as ByName}
 use Rattle.std.specs.Prelude.{is_some}
 use Rattle.erl_control.specs.Control.{control_in, message_in, IsUnlinkId, HasId}
 use Rattle.erl_control.specs.Frame.{SpellsMessage, IsSignalText}
-use Rattle.erl_control.specs.Reading.{IsRowHead, ArePids, AreIdAndPids, ArePidsAndReason, ArePidsAndReference}
-use Rattle.erl_control.specs.Reading.{AreMonitorExit, AreSend, AreBefore, IsFollowedText, tag_of, arity_of, AreFields}
+use Rattle.erl_control.specs.Reading.{IsPair, IsRowHead, ArePids, AreIdAndPids, ArePidsAndReason, target_term}
+use Rattle.erl_control.specs.Reading.{AreMonitor, AreMonitored, AreMonitorExit, AreSend, AreRegSend, AreBefore, tag_of, arity_of, AreFields}
 
 -- ---- fields in a row
 
@@ -50,44 +53,77 @@ two_to : (S : Data → List ℕ → Type 0) (t u : Data) (ts : Items) (b x y z :
     → b ≡ (x ++ y) ++ z → SpellAll S (item t (item u ts)) b
 two_to S t u ts b x y z p q r e = (x, y ++ z, p, (y, z, q, r, refl), e ∙ append_assoc x y z)
 
--- From and To, and what is behind them
-record PidsThen (levels : ℕ) (p q : Pid) (ts : Items) (b : List ℕ) : Type 0 where
+-- the spellings of what f makes a term
+abbrev Made : {A : Type 0} → ℕ → (A → Data) → A → List ℕ → Type 0
+Made levels f x b = Spells levels (f x) b
+
+-- two of them, and what is behind
+record PairThen {A B : Type 0} (levels : ℕ) (f : A → Data) (g : B → Data) (x : A × B) (ts : Items) (b : List ℕ) : Type 0 where
   front : List ℕ
   back : List ℕ
-  are_pids : ArePids levels (p, q) front
+  are_both : IsPair (Made levels f) (Made levels g) x front
   are_others : SpellAll (Spells levels) ts back
   parts : b ≡ front ++ back
 
-pids_from : (levels : ℕ) (p q : Pid) (ts : Items) (b : List ℕ) → SpellAll (Spells levels) (item (pid p) (item (pid q) ts)) b
-    → PidsThen levels p q ts b
-pids_from levels p q ts b s =
-    let w = two_from (Spells levels) (pid p) (pid q) ts b s in
+pair_from : {A B : Type 0} (levels : ℕ) (f : A → Data) (g : B → Data) (x : A × B) (ts : Items) (b : List ℕ)
+    → SpellAll (Spells levels) (item (f x.0) (item (g x.1) ts)) b → PairThen levels f g x ts b
+pair_from levels f g x ts b s =
+    let w = two_from (Spells levels) (f x.0) (g x.1) ts b s in
     record {
       front = w.first ++ w.second;
       back = w.others;
-      are_pids = record { front = w.first; back = w.second; is_front = w.is_first; is_back = w.is_second; parts = refl };
+      are_both = record { front = w.first; back = w.second; is_front = w.is_first; is_back = w.is_second; parts = refl };
       are_others = w.are_others;
       parts = w.parts;
     }
 
-pids_to : (levels : ℕ) (p q : Pid) (ts : Items) (b front back : List ℕ) → ArePids levels (p, q) front
-    → SpellAll (Spells levels) ts back → b ≡ front ++ back → SpellAll (Spells levels) (item (pid p) (item (pid q) ts)) b
-pids_to levels p q ts b front back s r e =
-    two_to (Spells levels) (pid p) (pid q) ts b s.front s.back back s.is_front s.is_back r (e ∙ ap (λ (w : List ℕ). w ++ back) s.parts)
+pair_to : {A B : Type 0} (levels : ℕ) (f : A → Data) (g : B → Data) (x : A × B) (ts : Items) (b front back : List ℕ)
+    → IsPair (Made levels f) (Made levels g) x front → SpellAll (Spells levels) ts back → b ≡ front ++ back
+    → SpellAll (Spells levels) (item (f x.0) (item (g x.1) ts)) b
+pair_to levels f g x ts b front back s r e =
+    two_to (Spells levels) (f x.0) (g x.1) ts b s.front s.back back s.is_front s.is_back r (e ∙ ap (λ (w : List ℕ). w ++ back) s.parts)
+
+-- three of them
+three_from : {A B C : Type 0} (levels : ℕ) (f : A → Data) (g : B → Data) (h : C → Data) (x : A × B) (z : C) (b : List ℕ)
+    → SpellAll (Spells levels) (item (f x.0) (item (g x.1) (item (h z) no_items))) b
+    → IsPair (IsPair (Made levels f) (Made levels g)) (Made levels h) (x, z) b
+three_from levels f g h x z b s =
+    let w = pair_from levels f g x (item (h z) no_items) b s in
+    record {
+      front = w.front;
+      back = w.back;
+      is_front = w.are_both;
+      is_back = last_from (Spells levels) (h z) w.back w.are_others;
+      parts = w.parts;
+    }
+
+three_to : {A B C : Type 0} (levels : ℕ) (f : A → Data) (g : B → Data) (h : C → Data) (x : A × B) (z : C) (b : List ℕ)
+    → IsPair (IsPair (Made levels f) (Made levels g)) (Made levels h) (x, z) b
+    → SpellAll (Spells levels) (item (f x.0) (item (g x.1) (item (h z) no_items))) b
+three_to levels f g h x z b s =
+    pair_to levels f g x (item (h z) no_items) b s.front s.back s.is_front (last_to (Spells levels) (h z) s.back s.is_back) s.parts
+
+abbrev itself : Data → Data
+itself t = t
 
 -- ---- the fields of a row, and its message
 
 abbrev pub fields_of : Data → Signal → Bool → Items
 fields_of unused (Link p q) payload = item (pid p) (item (pid q) no_items)
 fields_of unused (Send p t) payload = item unused (item (pid p) no_items)
+fields_of unused (RegSend p n t) payload = item (pid p) (item unused (item (atom n) no_items))
 fields_of unused (Exit p q t) false = item (pid p) (item (pid q) (item t no_items))
 fields_of unused (Exit p q t) true = item (pid p) (item (pid q) no_items)
 fields_of unused (Exit2 p q t) false = item (pid p) (item (pid q) (item t no_items))
 fields_of unused (Exit2 p q t) true = item (pid p) (item (pid q) no_items)
 fields_of unused (Monitor p q r) payload = item (pid p) (item (pid q) (item (reference r) no_items))
+fields_of unused (MonitorName p n r) payload = item (pid p) (item (atom n) (item (reference r) no_items))
 fields_of unused (Demonitor p q r) payload = item (pid p) (item (pid q) (item (reference r) no_items))
+fields_of unused (DemonitorName p n r) payload = item (pid p) (item (atom n) (item (reference r) no_items))
 fields_of unused (MonitorExit p q r t) false = item (pid p) (item (pid q) (item (reference r) (item t no_items)))
 fields_of unused (MonitorExit p q r t) true = item (pid p) (item (pid q) (item (reference r) no_items))
+fields_of unused (MonitorNameExit n q r t) false = item (atom n) (item (pid q) (item (reference r) (item t no_items)))
+fields_of unused (MonitorNameExit n q r t) true = item (atom n) (item (pid q) (item (reference r) no_items))
 fields_of unused (UnlinkId id p q) payload = item (int (pos id)) (item (pid p) (item (pid q) no_items))
 fields_of unused (UnlinkIdAck id p q) payload = item (int (pos id)) (item (pid p) (item (pid q) no_items))
 
@@ -103,6 +139,8 @@ row_parts unused (Exit2 p q t) false = refl
 row_parts unused (Exit2 p q t) true = refl
 row_parts unused (MonitorExit p q r t) false = refl
 row_parts unused (MonitorExit p q r t) true = refl
+row_parts unused (MonitorNameExit n q r t) false = refl
+row_parts unused (MonitorNameExit n q r t) true = refl
 row_parts unused _ payload = refl
 
 row_arity : (unused : Data) (s : Signal) (payload : Bool) → suc (count (fields_of unused s payload)) ≡ arity_of s payload
@@ -113,6 +151,8 @@ row_arity unused (Exit2 p q t) false = refl
 row_arity unused (Exit2 p q t) true = refl
 row_arity unused (MonitorExit p q r t) false = refl
 row_arity unused (MonitorExit p q r t) true = refl
+row_arity unused (MonitorNameExit n q r t) false = refl
+row_arity unused (MonitorNameExit n q r t) true = refl
 row_arity unused _ payload = refl
 
 row_tag : (s : Signal) (payload : Bool) → tag_of s payload < 2 ^ 64
@@ -123,71 +163,64 @@ row_tag (Exit2 p q t) false = omega arith
 row_tag (Exit2 p q t) true = omega arith
 row_tag (MonitorExit p q r t) false = omega arith
 row_tag (MonitorExit p q r t) true = omega arith
+row_tag (MonitorNameExit n q r t) false = omega arith
+row_tag (MonitorNameExit n q r t) true = omega arith
 row_tag _ payload = omega arith
 
 module _ (levels : ℕ) where
   two_pids_from : (p q : Pid) (b : List ℕ) → SpellAll (Spells levels) (item (pid p) (item (pid q) no_items)) b → ArePids levels (p, q) b
   two_pids_from p q b s =
-      let w = pids_from levels p q no_items b s in
-      subst (ArePids levels (p, q)) (sym (w.parts ∙ ap (λ (v : List ℕ). w.front ++ v) w.are_others ∙ append-nil w.front)) w.are_pids
+      let w = pair_from levels pid pid (p, q) no_items b s in
+      subst (ArePids levels (p, q)) (sym (w.parts ∙ ap (λ (v : List ℕ). w.front ++ v) w.are_others ∙ append-nil w.front)) w.are_both
 
   two_pids_to : (p q : Pid) (b : List ℕ) → ArePids levels (p, q) b → SpellAll (Spells levels) (item (pid p) (item (pid q) no_items)) b
-  two_pids_to p q b s = pids_to levels p q no_items b b [] s refl (sym (append-nil b))
+  two_pids_to p q b s = pair_to levels pid pid (p, q) no_items b b [] s refl (sym (append-nil b))
 
   exit_from : (p q : Pid) (t : Data) (b : List ℕ) → SpellAll (Spells levels) (item (pid p) (item (pid q) (item t no_items))) b
       → ArePidsAndReason levels ((p, q), t) b
-  exit_from p q t b s =
-      let w = pids_from levels p q (item t no_items) b s in
-      record {
-        front = w.front;
-        back = w.back;
-        is_front = w.are_pids;
-        is_back = last_from (Spells levels) t w.back w.are_others;
-        parts = w.parts;
-      }
+  exit_from p q t b s = three_from levels pid pid itself (p, q) t b s
 
   exit_to : (p q : Pid) (t : Data) (b : List ℕ) → ArePidsAndReason levels ((p, q), t) b
       → SpellAll (Spells levels) (item (pid p) (item (pid q) (item t no_items))) b
-  exit_to p q t b s = pids_to levels p q (item t no_items) b s.front s.back s.is_front (last_to (Spells levels) t s.back s.is_back) s.parts
+  exit_to p q t b s = three_to levels pid pid itself (p, q) t b s
 
-  monitor_from : (p q : Pid) (r : Reference) (b : List ℕ)
-      → SpellAll (Spells levels) (item (pid p) (item (pid q) (item (reference r) no_items))) b
-      → ArePidsAndReference levels ((p, q), r) b
-  monitor_from p q r b s =
-      let w = pids_from levels p q (item (reference r) no_items) b s in
-      record {
-        front = w.front;
-        back = w.back;
-        is_front = w.are_pids;
-        is_back = last_from (Spells levels) (reference r) w.back w.are_others;
-        parts = w.parts;
-      }
+  monitor_from : (p : Pid) (k : TargetRef) (r : Reference) (b : List ℕ)
+      → SpellAll (Spells levels) (item (pid p) (item (target_term k) (item (reference r) no_items))) b
+      → AreMonitor levels ((p, k), r) b
+  monitor_from p k r b s = three_from levels pid target_term reference (p, k) r b s
 
-  monitor_to : (p q : Pid) (r : Reference) (b : List ℕ) → ArePidsAndReference levels ((p, q), r) b
-      → SpellAll (Spells levels) (item (pid p) (item (pid q) (item (reference r) no_items))) b
-  monitor_to p q r b s =
-      pids_to levels p q (item (reference r) no_items) b s.front s.back s.is_front
-      (last_to (Spells levels) (reference r) s.back s.is_back) s.parts
+  monitor_to : (p : Pid) (k : TargetRef) (r : Reference) (b : List ℕ) → AreMonitor levels ((p, k), r) b
+      → SpellAll (Spells levels) (item (pid p) (item (target_term k) (item (reference r) no_items))) b
+  monitor_to p k r b s = three_to levels pid target_term reference (p, k) r b s
 
-  monitor_exit_from : (p q : Pid) (r : Reference) (t : Data) (b : List ℕ)
-      → SpellAll (Spells levels) (item (pid p) (item (pid q) (item (reference r) (item t no_items)))) b
-      → AreMonitorExit levels (((p, q), r), t) b
-  monitor_exit_from p q r t b s =
-      let w = pids_from levels p q (item (reference r) (item t no_items)) b s in
+  monitored_from : (k : TargetRef) (q : Pid) (r : Reference) (b : List ℕ)
+      → SpellAll (Spells levels) (item (target_term k) (item (pid q) (item (reference r) no_items))) b
+      → AreMonitored levels ((k, q), r) b
+  monitored_from k q r b s = three_from levels target_term pid reference (k, q) r b s
+
+  monitored_to : (k : TargetRef) (q : Pid) (r : Reference) (b : List ℕ) → AreMonitored levels ((k, q), r) b
+      → SpellAll (Spells levels) (item (target_term k) (item (pid q) (item (reference r) no_items))) b
+  monitored_to k q r b s = three_to levels target_term pid reference (k, q) r b s
+
+  monitor_exit_from : (k : TargetRef) (q : Pid) (r : Reference) (t : Data) (b : List ℕ)
+      → SpellAll (Spells levels) (item (target_term k) (item (pid q) (item (reference r) (item t no_items)))) b
+      → AreMonitorExit levels (((k, q), r), t) b
+  monitor_exit_from k q r t b s =
+      let w = pair_from levels target_term pid (k, q) (item (reference r) (item t no_items)) b s in
       let o = w.are_others in
       record {
         front = w.front ++ o.0;
         back = o.1;
-        is_front = record { front = w.front; back = o.0; is_front = w.are_pids; is_back = o.2; parts = refl };
+        is_front = record { front = w.front; back = o.0; is_front = w.are_both; is_back = o.2; parts = refl };
         is_back = last_from (Spells levels) t o.1 o.3;
         parts = w.parts ∙ ap (λ (v : List ℕ). w.front ++ v) o.4 ∙ sym (append_assoc w.front o.0 o.1);
       }
 
-  monitor_exit_to : (p q : Pid) (r : Reference) (t : Data) (b : List ℕ) → AreMonitorExit levels (((p, q), r), t) b
-      → SpellAll (Spells levels) (item (pid p) (item (pid q) (item (reference r) (item t no_items)))) b
-  monitor_exit_to p q r t b s =
+  monitor_exit_to : (k : TargetRef) (q : Pid) (r : Reference) (t : Data) (b : List ℕ) → AreMonitorExit levels (((k, q), r), t) b
+      → SpellAll (Spells levels) (item (target_term k) (item (pid q) (item (reference r) (item t no_items)))) b
+  monitor_exit_to k q r t b s =
       let f = s.is_front in
-      pids_to levels p q (item (reference r) (item t no_items)) b f.front (f.back ++ s.back) f.is_front
+      pair_to levels target_term pid (k, q) (item (reference r) (item t no_items)) b f.front (f.back ++ s.back) f.is_front
       (f.back, s.back, f.is_back, last_to (Spells levels) t s.back s.is_back, refl)
       (s.parts ∙ ap (λ (v : List ℕ). v ++ s.back) f.parts ∙ append_assoc f.front f.back s.back)
 
@@ -206,6 +239,14 @@ module _ (levels : ℕ) where
   pub send_to : (t : Data) (p : Pid) (b : List ℕ) → AreSend levels (t, p) b → SpellAll (Spells levels) (item t (item (pid p) no_items)) b
   send_to t p b s = (s.front, s.back, s.is_front, last_to (Spells levels) (pid p) s.back s.is_back, s.parts)
 
+  pub reg_send_from : (p : Pid) (t : Data) (n : List ℕ) (b : List ℕ)
+      → SpellAll (Spells levels) (item (pid p) (item t (item (atom n) no_items))) b → AreRegSend levels ((p, t), n) b
+  reg_send_from p t n b s = three_from levels pid itself atom (p, t) n b s
+
+  pub reg_send_to : (p : Pid) (t : Data) (n : List ℕ) (b : List ℕ) → AreRegSend levels ((p, t), n) b
+      → SpellAll (Spells levels) (item (pid p) (item t (item (atom n) no_items))) b
+  reg_send_to p t n b s = three_to levels pid itself atom (p, t) n b s
+
   -- nothing stands behind
   alone : (T : List ℕ → Type 0) (x message : List ℕ) → message ≡ [] → T x → T (x ++ message)
   alone T x message e s = subst T (sym (ap (λ (w : List ℕ). x ++ w) e ∙ append-nil x)) s
@@ -216,18 +257,30 @@ module _ (levels : ℕ) where
   fields_from unused (Link p q) w x message h s e = alone (AreFields levels (Link p q) w) x message e (two_pids_from p q x s)
   fields_from unused (Send p t) w x message h s e =
       (unused, record { front = x; back = message; is_front = send_from unused p x s; is_back = e; parts = refl })
+  fields_from unused (RegSend p n t) w x message h s e =
+      (unused, record { front = x; back = message; is_front = reg_send_from p unused n x s; is_back = e; parts = refl })
   fields_from unused (Exit p q t) false x message h s e = alone (AreFields levels (Exit p q t) false) x message e (exit_from p q t x s)
   fields_from unused (Exit p q t) true x message h s e =
       record { front = x; back = message; is_front = two_pids_from p q x s; is_back = e; parts = refl }
   fields_from unused (Exit2 p q t) false x message h s e = alone (AreFields levels (Exit2 p q t) false) x message e (exit_from p q t x s)
   fields_from unused (Exit2 p q t) true x message h s e =
       record { front = x; back = message; is_front = two_pids_from p q x s; is_back = e; parts = refl }
-  fields_from unused (Monitor p q r) w x message h s e = alone (AreFields levels (Monitor p q r) w) x message e (monitor_from p q r x s)
-  fields_from unused (Demonitor p q r) w x message h s e = alone (AreFields levels (Demonitor p q r) w) x message e (monitor_from p q r x s)
+  fields_from unused (Monitor p q r) w x message h s e =
+      alone (AreFields levels (Monitor p q r) w) x message e (monitor_from p (ByPid q) r x s)
+  fields_from unused (MonitorName p n r) w x message h s e =
+      alone (AreFields levels (MonitorName p n r) w) x message e (monitor_from p (ByName n) r x s)
+  fields_from unused (Demonitor p q r) w x message h s e =
+      alone (AreFields levels (Demonitor p q r) w) x message e (monitor_from p (ByPid q) r x s)
+  fields_from unused (DemonitorName p n r) w x message h s e =
+      alone (AreFields levels (DemonitorName p n r) w) x message e (monitor_from p (ByName n) r x s)
   fields_from unused (MonitorExit p q r t) false x message h s e =
-      alone (AreFields levels (MonitorExit p q r t) false) x message e (monitor_exit_from p q r t x s)
+      alone (AreFields levels (MonitorExit p q r t) false) x message e (monitor_exit_from (ByPid p) q r t x s)
   fields_from unused (MonitorExit p q r t) true x message h s e =
-      record { front = x; back = message; is_front = monitor_from p q r x s; is_back = e; parts = refl }
+      record { front = x; back = message; is_front = monitored_from (ByPid p) q r x s; is_back = e; parts = refl }
+  fields_from unused (MonitorNameExit n q r t) false x message h s e =
+      alone (AreFields levels (MonitorNameExit n q r t) false) x message e (monitor_exit_from (ByName n) q r t x s)
+  fields_from unused (MonitorNameExit n q r t) true x message h s e =
+      record { front = x; back = message; is_front = monitored_from (ByName n) q r x s; is_back = e; parts = refl }
   fields_from unused (UnlinkId id p q) w x message h s e = alone (AreFields levels (UnlinkId id p q) w) x message e (unlink_from id p q x h s)
   fields_from unused (UnlinkIdAck id p q) w x message h s e =
       alone (AreFields levels (UnlinkIdAck id p q) w) x message e (unlink_from id p q x h s)
@@ -266,6 +319,17 @@ module _ (levels : ℕ) where
         told = g.is_back;
         parts = g.parts;
       }
+  fields_to (RegSend p n t) w b f =
+      let g = f.1 in
+      record {
+        unused = f.0;
+        elements = g.front;
+        message = g.back;
+        has_id = tt;
+        spelled = reg_send_to p f.0 n g.front g.is_front;
+        told = g.is_back;
+        parts = g.parts;
+      }
   fields_to (Exit p q t) false b f = lone (Exit p q t) false b tt (exit_to p q t b f) refl
   fields_to (Exit p q t) true b f = record {
     unused = int (pos 0);
@@ -286,15 +350,27 @@ module _ (levels : ℕ) where
     told = f.is_back;
     parts = f.parts;
   }
-  fields_to (Monitor p q r) w b f = lone (Monitor p q r) w b tt (monitor_to p q r b f) refl
-  fields_to (Demonitor p q r) w b f = lone (Demonitor p q r) w b tt (monitor_to p q r b f) refl
-  fields_to (MonitorExit p q r t) false b f = lone (MonitorExit p q r t) false b tt (monitor_exit_to p q r t b f) refl
+  fields_to (Monitor p q r) w b f = lone (Monitor p q r) w b tt (monitor_to p (ByPid q) r b f) refl
+  fields_to (MonitorName p n r) w b f = lone (MonitorName p n r) w b tt (monitor_to p (ByName n) r b f) refl
+  fields_to (Demonitor p q r) w b f = lone (Demonitor p q r) w b tt (monitor_to p (ByPid q) r b f) refl
+  fields_to (DemonitorName p n r) w b f = lone (DemonitorName p n r) w b tt (monitor_to p (ByName n) r b f) refl
+  fields_to (MonitorExit p q r t) false b f = lone (MonitorExit p q r t) false b tt (monitor_exit_to (ByPid p) q r t b f) refl
   fields_to (MonitorExit p q r t) true b f = record {
     unused = int (pos 0);
     elements = f.front;
     message = f.back;
     has_id = tt;
-    spelled = monitor_to p q r f.front f.is_front;
+    spelled = monitored_to (ByPid p) q r f.front f.is_front;
+    told = f.is_back;
+    parts = f.parts;
+  }
+  fields_to (MonitorNameExit n q r t) false b f = lone (MonitorNameExit n q r t) false b tt (monitor_exit_to (ByName n) q r t b f) refl
+  fields_to (MonitorNameExit n q r t) true b f = record {
+    unused = int (pos 0);
+    elements = f.front;
+    message = f.back;
+    has_id = tt;
+    spelled = monitored_to (ByName n) q r f.front f.is_front;
     told = f.is_back;
     parts = f.parts;
   }
@@ -306,34 +382,43 @@ module _ (levels : ℕ) where
   pub before_to : (unused : Data) (s : Signal) (payload : Bool) (b : List ℕ) → AreBefore levels unused s payload b
       → SpellAll (Spells levels) (fields_of unused s payload) b
   before_to unused (Send p t) w b f = send_to unused p b f
+  before_to unused (RegSend p n t) w b f = reg_send_to p unused n b f
   before_to unused (Exit p q t) true b f = two_pids_to p q b f
   before_to unused (Exit2 p q t) true b f = two_pids_to p q b f
-  before_to unused (MonitorExit p q r t) true b f = monitor_to p q r b f
+  before_to unused (MonitorExit p q r t) true b f = monitored_to (ByPid p) q r b f
+  before_to unused (MonitorNameExit n q r t) true b f = monitored_to (ByName n) q r b f
   before_to unused (Exit p q t) false b f = absurd f
   before_to unused (Exit2 p q t) false b f = absurd f
   before_to unused (MonitorExit p q r t) false b f = absurd f
+  before_to unused (MonitorNameExit n q r t) false b f = absurd f
   before_to unused _ w b f = absurd f
 
   pub before_from : (unused : Data) (s : Signal) (payload : Bool) (b : List ℕ) → is_some (message_in s payload) ≡ true
       → SpellAll (Spells levels) (fields_of unused s payload) b → AreBefore levels unused s payload b
   before_from unused (Send p t) w b h f = send_from unused p b f
+  before_from unused (RegSend p n t) w b h f = reg_send_from p unused n b f
   before_from unused (Exit p q t) true b h f = two_pids_from p q b f
   before_from unused (Exit2 p q t) true b h f = two_pids_from p q b f
-  before_from unused (MonitorExit p q r t) true b h f = monitor_from p q r b f
+  before_from unused (MonitorExit p q r t) true b h f = monitored_from (ByPid p) q r b f
+  before_from unused (MonitorNameExit n q r t) true b h f = monitored_from (ByName n) q r b f
   before_from unused (Exit p q t) false b h f = absurd cc
   before_from unused (Exit2 p q t) false b h f = absurd cc
   before_from unused (MonitorExit p q r t) false b h f = absurd cc
+  before_from unused (MonitorNameExit n q r t) false b h f = absurd cc
   before_from unused _ w b h f = absurd cc
 
   pub before_followed : (unused : Data) (s : Signal) (payload : Bool) (b : List ℕ) → AreBefore levels unused s payload b
       → is_some (message_in s payload) ≡ true
   before_followed unused (Send p t) w b f = refl
+  before_followed unused (RegSend p n t) w b f = refl
   before_followed unused (Exit p q t) true b f = refl
   before_followed unused (Exit2 p q t) true b f = refl
   before_followed unused (MonitorExit p q r t) true b f = refl
+  before_followed unused (MonitorNameExit n q r t) true b f = refl
   before_followed unused (Exit p q t) false b f = absurd f
   before_followed unused (Exit2 p q t) false b f = absurd f
   before_followed unused (MonitorExit p q r t) false b f = absurd f
+  before_followed unused (MonitorNameExit n q r t) false b f = absurd f
   before_followed unused _ w b f = absurd f
 
 -- ---- rows

@@ -12,14 +12,14 @@ use Rattle.erl_term.specs.Spelling.{IsSpelling}
 use Rattle.erl_term.specs.Canonical.{canonical, levels_of}
 use Rattle.erl_term.specs.Answer.{IsDue}
 use Rattle.erl_control.specs.declared.signal.Signal.{Signal}
-use Rattle.erl_control.specs.declared.signal.Signal.TheVariants.{Send, Exit, Exit2, MonitorExit}
+use Rattle.erl_control.specs.declared.signal.Signal.TheVariants.{Send, RegSend, Exit, Exit2, MonitorExit, MonitorNameExit}
 use Rattle.erl_control.specs.declared.error.FrameError.{FrameError}
 use Rattle.erl_control.specs.declared.error.FrameError.TheVariants.{NotPassThrough, BadControl, TooLong, Term, OutOfMemory}
 use Rattle.erl_control.specs.Control.{control_in, message_in, HasId, Carries, IsFit}
 use Rattle.erl_control.specs.Frame.{limit, SpellsMessage, IsSignalText}
 use Rattle.erl_control.specs.Answer.{IsTermFault, IsMessageFault, IsRow, IsNoRow}
 use Rattle.erl_control.specs.Reading.{IsTextFault, IsFitText}
-use Rattle.erl_control.proofs.Rows.{but_message, row_tells, followed_tells, same_signal, is_row, with_message, told_signal, told_id, followed_id}
+use Rattle.erl_control.proofs.Rows.{row_tells, followed_tells, same_signal, is_row, with_message, told_signal, told_id, followed_id}
 
 -- one answer is due to any bytes in which a term is looked for
 abbrev pub OneTerm : Type 0
@@ -244,9 +244,11 @@ fit_or_not t =
 
 carries_or_not : (s : Signal) → Carries IsFit s ⊎ (¬ Carries IsFit s)
 carries_or_not (Send p t) = fit_or_not t
+carries_or_not (RegSend p n t) = fit_or_not t
 carries_or_not (Exit p q t) = fit_or_not t
 carries_or_not (Exit2 p q t) = fit_or_not t
 carries_or_not (MonitorExit p q r t) = fit_or_not t
+carries_or_not (MonitorNameExit n q r t) = fit_or_not t
 carries_or_not s = inl tt
 
 whole_text : (s : Signal) (text front : List ℕ) → IsSignalText s front → text ≡ front ++ [] → IsSignalText s text

@@ -18,11 +18,15 @@ use Rattle.erl_control.specs.Numbers.{error_of}
 abbrev pub signal_of : SignalParts → Signal
 signal_of (borrowed.Link from to) = signal.Link from.now to.now
 signal_of (borrowed.Send to message) = signal.Send to.now message.now
+signal_of (borrowed.RegSend from name message) = signal.RegSend from.now name.now message.now
 signal_of (borrowed.Exit from to reason) = signal.Exit from.now to.now reason.now
 signal_of (borrowed.Exit2 from to reason) = signal.Exit2 from.now to.now reason.now
 signal_of (borrowed.Monitor from to r) = signal.Monitor from.now to.now r.now
+signal_of (borrowed.MonitorName from name r) = signal.MonitorName from.now name.now r.now
 signal_of (borrowed.Demonitor from to r) = signal.Demonitor from.now to.now r.now
+signal_of (borrowed.DemonitorName from name r) = signal.DemonitorName from.now name.now r.now
 signal_of (borrowed.MonitorExit from to r reason) = signal.MonitorExit from.now to.now r.now reason.now
+signal_of (borrowed.MonitorNameExit name to r reason) = signal.MonitorNameExit name.now to.now r.now reason.now
 signal_of (borrowed.UnlinkId id from to) = signal.UnlinkId id from.now to.now
 signal_of (borrowed.UnlinkIdAck id from to) = signal.UnlinkIdAck id from.now to.now
 
@@ -30,11 +34,15 @@ signal_of (borrowed.UnlinkIdAck id from to) = signal.UnlinkIdAck id from.now to.
 abbrev pub signal_in : SignalRef → Signal
 signal_in (lying.Link from to) = signal.Link from to
 signal_in (lying.Send to message) = signal.Send to message
+signal_in (lying.RegSend from name message) = signal.RegSend from name message
 signal_in (lying.Exit from to reason) = signal.Exit from to reason
 signal_in (lying.Exit2 from to reason) = signal.Exit2 from to reason
 signal_in (lying.Monitor from to r) = signal.Monitor from to r
+signal_in (lying.MonitorName from name r) = signal.MonitorName from name r
 signal_in (lying.Demonitor from to r) = signal.Demonitor from to r
+signal_in (lying.DemonitorName from name r) = signal.DemonitorName from name r
 signal_in (lying.MonitorExit from to r reason) = signal.MonitorExit from to r reason
+signal_in (lying.MonitorNameExit name to r reason) = signal.MonitorNameExit name to r reason
 signal_in (lying.UnlinkId id from to) = signal.UnlinkId id from to
 signal_in (lying.UnlinkIdAck id from to) = signal.UnlinkIdAck id from to
 

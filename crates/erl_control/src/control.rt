@@ -10,9 +10,9 @@ ghost use Rattle.erl_control.specs.Reading.{IsRowHead, HasFields, IsBefore, IsFo
 
 use crate::error::{FrameError, FrameFault};
 use crate::fields::{
-    id_and_pids_at, pids_and_payload_at, pids_and_reason_at, pids_and_reference_at, pids_at,
-    pids_reference_and_payload_at, pids_reference_and_reason_at, row_head_at, send_and_message_at,
-    send_at,
+    TargetRef, id_and_pids_at, monitor_fields_at, monitored_and_payload_at,
+    monitored_and_reason_at, monitored_fields_at, pids_and_payload_at, pids_and_reason_at, pids_at,
+    reg_send_and_message_at, reg_send_at, row_head_at, send_and_message_at, send_at,
 };
 use crate::signal::Signal;
 use crate::signal_ref::SignalRef;
@@ -20,8 +20,8 @@ use crate::tags::{
     DEMONITOR_P, DEMONITOR_P_ARITY, EXIT, EXIT_ARITY, EXIT2, EXIT2_ARITY, LINK, LINK_ARITY,
     MONITOR_P, MONITOR_P_ARITY, MONITOR_P_EXIT, MONITOR_P_EXIT_ARITY, PAYLOAD_EXIT,
     PAYLOAD_EXIT_ARITY, PAYLOAD_EXIT2, PAYLOAD_EXIT2_ARITY, PAYLOAD_MONITOR_P_EXIT,
-    PAYLOAD_MONITOR_P_EXIT_ARITY, SEND, SEND_ARITY, UNLINK_ID, UNLINK_ID_ACK, UNLINK_ID_ACK_ARITY,
-    UNLINK_ID_ARITY,
+    PAYLOAD_MONITOR_P_EXIT_ARITY, REG_SEND, REG_SEND_ARITY, SEND, SEND_ARITY, UNLINK_ID,
+    UNLINK_ID_ACK, UNLINK_ID_ACK_ARITY, UNLINK_ID_ARITY,
 };
 use erl_term::term_len;
 use std::alloc::Global;
@@ -38,6 +38,23 @@ fn message_at(levels: u32, fields: &[u8]) -> Option<((SignalRef<'_>, u32), &[u8]
 {
     let (((_, to), message), rest) = send_and_message_at(levels, fields)?;
     Some(((SignalRef::Send { to, message }, SEND_ARITY), rest))
+}
+
+fn named_message_at(levels: u32, fields: &[u8]) -> Option<((SignalRef<'_>, u32), &[u8])>
+    ensures { ReadsFront (HasFields levels REG_SEND) fields.now result }
+{
+    let ((((from, _), name), message), rest) = reg_send_and_message_at(levels, fields)?;
+    Some((
+        (
+            SignalRef::RegSend {
+                from,
+                name,
+                message,
+            },
+            REG_SEND_ARITY,
+        ),
+        rest,
+    ))
 }
 
 fn exit_at(levels: u32, fields: &[u8]) -> Option<((SignalRef<'_>, u32), &[u8])>
@@ -77,71 +94,125 @@ fn payload_exit2_at(levels: u32, fields: &[u8]) -> Option<((SignalRef<'_>, u32),
 fn monitor_at(levels: u32, fields: &[u8]) -> Option<((SignalRef<'_>, u32), &[u8])>
     ensures { ReadsFront (HasFields levels MONITOR_P) fields.now result }
 {
-    let (((from, to), reference), rest) = pids_and_reference_at(levels, fields)?;
-    Some((
-        (
-            SignalRef::Monitor {
-                from,
-                to,
-                reference,
-            },
-            MONITOR_P_ARITY,
-        ),
-        rest,
-    ))
+    let (((from, target), reference), rest) = monitor_fields_at(levels, fields)?;
+    match target {
+        TargetRef::Pid(to) => Some((
+            (
+                SignalRef::Monitor {
+                    from,
+                    to,
+                    reference,
+                },
+                MONITOR_P_ARITY,
+            ),
+            rest,
+        )),
+        TargetRef::Name(name) => Some((
+            (
+                SignalRef::MonitorName {
+                    from,
+                    name,
+                    reference,
+                },
+                MONITOR_P_ARITY,
+            ),
+            rest,
+        )),
+    }
 }
 
 fn demonitor_at(levels: u32, fields: &[u8]) -> Option<((SignalRef<'_>, u32), &[u8])>
     ensures { ReadsFront (HasFields levels DEMONITOR_P) fields.now result }
 {
-    let (((from, to), reference), rest) = pids_and_reference_at(levels, fields)?;
-    Some((
-        (
-            SignalRef::Demonitor {
-                from,
-                to,
-                reference,
-            },
-            DEMONITOR_P_ARITY,
-        ),
-        rest,
-    ))
+    let (((from, target), reference), rest) = monitor_fields_at(levels, fields)?;
+    match target {
+        TargetRef::Pid(to) => Some((
+            (
+                SignalRef::Demonitor {
+                    from,
+                    to,
+                    reference,
+                },
+                DEMONITOR_P_ARITY,
+            ),
+            rest,
+        )),
+        TargetRef::Name(name) => Some((
+            (
+                SignalRef::DemonitorName {
+                    from,
+                    name,
+                    reference,
+                },
+                DEMONITOR_P_ARITY,
+            ),
+            rest,
+        )),
+    }
 }
 
 fn monitor_exit_at(levels: u32, fields: &[u8]) -> Option<((SignalRef<'_>, u32), &[u8])>
     ensures { ReadsFront (HasFields levels MONITOR_P_EXIT) fields.now result }
 {
-    let ((((from, to), reference), reason), rest) = pids_reference_and_reason_at(levels, fields)?;
-    Some((
-        (
-            SignalRef::MonitorExit {
-                from,
-                to,
-                reference,
-                reason,
-            },
-            MONITOR_P_EXIT_ARITY,
-        ),
-        rest,
-    ))
+    let ((((target, to), reference), reason), rest) = monitored_and_reason_at(levels, fields)?;
+    match target {
+        TargetRef::Pid(from) => Some((
+            (
+                SignalRef::MonitorExit {
+                    from,
+                    to,
+                    reference,
+                    reason,
+                },
+                MONITOR_P_EXIT_ARITY,
+            ),
+            rest,
+        )),
+        TargetRef::Name(name) => Some((
+            (
+                SignalRef::MonitorNameExit {
+                    name,
+                    to,
+                    reference,
+                    reason,
+                },
+                MONITOR_P_EXIT_ARITY,
+            ),
+            rest,
+        )),
+    }
 }
 
 fn payload_monitor_exit_at(levels: u32, fields: &[u8]) -> Option<((SignalRef<'_>, u32), &[u8])>
     ensures { ReadsFront (HasFields levels PAYLOAD_MONITOR_P_EXIT) fields.now result }
 {
-    let ((((from, to), reference), reason), rest) = pids_reference_and_payload_at(levels, fields)?;
-    Some((
-        (
-            SignalRef::MonitorExit {
-                from,
-                to,
-                reference,
-                reason,
-            },
-            PAYLOAD_MONITOR_P_EXIT_ARITY,
-        ),
-        rest,
-    ))
+    let ((((target, to), reference), reason), rest) = monitored_and_payload_at(levels, fields)?;
+    match target {
+        TargetRef::Pid(from) => Some((
+            (
+                SignalRef::MonitorExit {
+                    from,
+                    to,
+                    reference,
+                    reason,
+                },
+                PAYLOAD_MONITOR_P_EXIT_ARITY,
+            ),
+            rest,
+        )),
+        TargetRef::Name(name) => Some((
+            (
+                SignalRef::MonitorNameExit {
+                    name,
+                    to,
+                    reference,
+                    reason,
+                },
+                PAYLOAD_MONITOR_P_EXIT_ARITY,
+            ),
+            rest,
+        )),
+    }
 }
 
 fn unlink_id_at(levels: u32, fields: &[u8]) -> Option<((SignalRef<'_>, u32), &[u8])>
@@ -171,6 +242,7 @@ fn fields_at(tag: u64, levels: u32, fields: &[u8]) -> Option<((SignalRef<'_>, u3
     match tag {
         LINK => link_at(levels, fields),
         SEND => message_at(levels, fields),
+        REG_SEND => named_message_at(levels, fields),
         EXIT => exit_at(levels, fields),
         PAYLOAD_EXIT => payload_exit_at(levels, fields),
         EXIT2 => exit2_at(levels, fields),
@@ -204,6 +276,13 @@ fn send_before_at(levels: u32, fields: &[u8]) -> Option<(u32, &[u8])>
     Some((SEND_ARITY, rest))
 }
 
+fn reg_send_before_at(levels: u32, fields: &[u8]) -> Option<(u32, &[u8])>
+    ensures { ReadsFront (IsBefore levels REG_SEND) fields.now result }
+{
+    let (_, rest) = reg_send_at(levels, fields)?;
+    Some((REG_SEND_ARITY, rest))
+}
+
 fn exit_before_at(levels: u32, fields: &[u8]) -> Option<(u32, &[u8])>
     ensures { ReadsFront (IsBefore levels PAYLOAD_EXIT) fields.now result }
 {
@@ -221,7 +300,7 @@ fn exit2_before_at(levels: u32, fields: &[u8]) -> Option<(u32, &[u8])>
 fn monitor_exit_before_at(levels: u32, fields: &[u8]) -> Option<(u32, &[u8])>
     ensures { ReadsFront (IsBefore levels PAYLOAD_MONITOR_P_EXIT) fields.now result }
 {
-    let (_, rest) = pids_and_reference_at(levels, fields)?;
+    let (_, rest) = monitored_fields_at(levels, fields)?;
     Some((PAYLOAD_MONITOR_P_EXIT_ARITY, rest))
 }
 
@@ -232,6 +311,7 @@ fn before_at(tag: u64, levels: u32, fields: &[u8]) -> Option<(u32, &[u8])>
 {
     match tag {
         SEND => send_before_at(levels, fields),
+        REG_SEND => reg_send_before_at(levels, fields),
         PAYLOAD_EXIT => exit_before_at(levels, fields),
         PAYLOAD_EXIT2 => exit2_before_at(levels, fields),
         PAYLOAD_MONITOR_P_EXIT => monitor_exit_before_at(levels, fields),

@@ -2,12 +2,21 @@
 ghost use Rattle.std.specs.Prelude.{◌≡◌};
 ghost use Rattle.erl_term.specs.Parts.{ReadsFront};
 ghost use Rattle.erl_term.specs.Spelling.{IsSpelling};
-ghost use Rattle.erl_control.specs.Reading.{IsOpening, IsNaturalText, IsRowHead, IsIdText, ArePids, AreIdAndPids, ArePidsAndReason, ArePidsAndReference, AreMonitorExit, ArePidsAndPayload, AreMonitorExitAndPayload, AreSend, AreSendAndMessage};
+ghost use Rattle.erl_control.specs.Reading.{IsOpening, IsNaturalText, IsRowHead, IsIdText, ArePids, AreIdAndPids, ArePidsAndReason, IsTargetText, AreMonitor, AreMonitored, AreMonitorExit, ArePidsAndPayload, AreMonitorExitAndPayload, AreSend, AreSendAndMessage, AreRegSend, AreRegSendAndMessage};
 
 use erl_term::{
-    PidRef, ReferenceRef, TermRef, TupleHead, integer_at, pid_at, reference_at, term_at,
-    tuple_head_at,
+    AtomRef, PidRef, ReferenceRef, TermRef, TupleHead, atom_at, integer_at, pid_at, reference_at,
+    term_at, tuple_head_at,
 };
+
+/// A process that is monitored, where it lies in the bytes that were read.
+#[derive(Debug, Drop)]
+pub enum TargetRef<'a> {
+    /// By its pid.
+    Pid(PidRef<'a>),
+    /// By its registered name.
+    Name(AtomRef<'a>),
+}
 
 /// The head of the tuple behind the version byte.
 fn opening_at(bytes: &[u8]) -> Option<(TupleHead, &[u8])>
@@ -89,33 +98,58 @@ pub fn pids_and_reason_at(
     Some(((pids, reason), rest))
 }
 
-/// From, To and Ref.
-pub fn pids_and_reference_at(
-    levels: u32,
-    bytes: &[u8],
-) -> Option<(((PidRef<'_>, PidRef<'_>), ReferenceRef<'_>), &[u8])>
-    ensures { ReadsFront (ArePidsAndReference levels) bytes.now result }
+/// Reads a process that is monitored: its pid, or else its registered name.
+fn target_at(levels: u32, bytes: &[u8]) -> Option<(TargetRef<'_>, &[u8])>
+    ensures { ReadsFront (IsTargetText levels) bytes.now result }
 {
-    let (pids, rest) = pids_at(levels, bytes)?;
-    let (reference, rest) = reference_at(levels, rest)?;
-    Some(((pids, reference), rest))
+    if let Some((pid, rest)) = pid_at(levels, bytes) {
+        return Some((TargetRef::Pid(pid), rest));
+    }
+    let (name, rest) = atom_at(levels, bytes)?;
+    Some((TargetRef::Name(name), rest))
 }
 
-/// From, To, Ref and Reason.
-pub fn pids_reference_and_reason_at(
+/// Reads From, To and Ref, where To is monitored.
+pub fn monitor_fields_at(
+    levels: u32,
+    bytes: &[u8],
+) -> Option<(((PidRef<'_>, TargetRef<'_>), ReferenceRef<'_>), &[u8])>
+    ensures { ReadsFront (AreMonitor levels) bytes.now result }
+{
+    let (from, rest) = pid_at(levels, bytes)?;
+    let (to, rest) = target_at(levels, rest)?;
+    let (reference, rest) = reference_at(levels, rest)?;
+    Some((((from, to), reference), rest))
+}
+
+/// Reads From, To and Ref, where From was monitored.
+pub fn monitored_fields_at(
+    levels: u32,
+    bytes: &[u8],
+) -> Option<(((TargetRef<'_>, PidRef<'_>), ReferenceRef<'_>), &[u8])>
+    ensures { ReadsFront (AreMonitored levels) bytes.now result }
+{
+    let (from, rest) = target_at(levels, bytes)?;
+    let (to, rest) = pid_at(levels, rest)?;
+    let (reference, rest) = reference_at(levels, rest)?;
+    Some((((from, to), reference), rest))
+}
+
+/// Reads the same, and Reason.
+pub fn monitored_and_reason_at(
     levels: u32,
     bytes: &[u8],
 ) -> Option<
     (
-        (((PidRef<'_>, PidRef<'_>), ReferenceRef<'_>), TermRef<'_>),
+        (((TargetRef<'_>, PidRef<'_>), ReferenceRef<'_>), TermRef<'_>),
         &[u8],
     ),
 >
     ensures { ReadsFront (AreMonitorExit levels) bytes.now result }
 {
-    let (monitor, rest) = pids_and_reference_at(levels, bytes)?;
+    let (fields, rest) = monitored_fields_at(levels, bytes)?;
     let (reason, rest) = term_at(levels, rest)?;
-    Some(((monitor, reason), rest))
+    Some(((fields, reason), rest))
 }
 
 /// The field of SEND that nobody uses, and To.
@@ -139,6 +173,36 @@ pub fn send_and_message_at(
     Some(((fields, message), rest))
 }
 
+/// Reads From, the field of REG_SEND that nobody uses, and ToName.
+pub fn reg_send_at(
+    levels: u32,
+    bytes: &[u8],
+) -> Option<(((PidRef<'_>, TermRef<'_>), AtomRef<'_>), &[u8])>
+    ensures { ReadsFront (AreRegSend levels) bytes.now result }
+{
+    let (from, rest) = pid_at(levels, bytes)?;
+    let (unused, rest) = term_at(levels, rest)?;
+    let (name, rest) = atom_at(levels, rest)?;
+    Some((((from, unused), name), rest))
+}
+
+/// Reads the same, and the message behind the control term.
+pub fn reg_send_and_message_at(
+    levels: u32,
+    bytes: &[u8],
+) -> Option<
+    (
+        (((PidRef<'_>, TermRef<'_>), AtomRef<'_>), TermRef<'_>),
+        &[u8],
+    ),
+>
+    ensures { ReadsFront (AreRegSendAndMessage levels) bytes.now result }
+{
+    let (fields, rest) = reg_send_at(levels, bytes)?;
+    let (message, rest) = spelling_at(rest)?;
+    Some(((fields, message), rest))
+}
+
 /// From and To, and the reason behind the control term.
 pub fn pids_and_payload_at(
     levels: u32,
@@ -151,19 +215,19 @@ pub fn pids_and_payload_at(
     Some(((pids, reason), rest))
 }
 
-/// From, To and Ref, and the reason behind the control term.
-pub fn pids_reference_and_payload_at(
+/// Reads From, which was monitored, To and Ref, and the reason behind the control term.
+pub fn monitored_and_payload_at(
     levels: u32,
     bytes: &[u8],
 ) -> Option<
     (
-        (((PidRef<'_>, PidRef<'_>), ReferenceRef<'_>), TermRef<'_>),
+        (((TargetRef<'_>, PidRef<'_>), ReferenceRef<'_>), TermRef<'_>),
         &[u8],
     ),
 >
     ensures { ReadsFront (AreMonitorExitAndPayload levels) bytes.now result }
 {
-    let (monitor, rest) = pids_and_reference_at(levels, bytes)?;
+    let (fields, rest) = monitored_fields_at(levels, bytes)?;
     let (reason, rest) = spelling_at(rest)?;
-    Some(((monitor, reason), rest))
+    Some(((fields, reason), rest))
 }

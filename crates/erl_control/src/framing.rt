@@ -20,12 +20,12 @@ use crate::signal::Signal;
 use crate::signal_parts::SignalParts;
 use crate::tags;
 use erl_term::{
-    Payload, Pid, Reference, integer_len, pid_len, reference_len, tuple_head_len, write_integer,
-    write_pid, write_reference, write_term, write_tuple_head,
+    Atom, Payload, Pid, Reference, atom_len, integer_len, pid_len, reference_len, tuple_head_len,
+    write_atom, write_integer, write_pid, write_reference, write_term, write_tuple_head,
 };
 use std::alloc::Global;
 
-/// The atom '', which is written in the field of SEND that nobody uses.
+/// The atom '', which is written in the field of SEND and of REG_SEND that nobody uses.
 const EMPTY_ATOM: [u8; 2] = [119, 0];
 
 fn has_id(signal: SignalParts<'_>) -> bool
@@ -35,11 +35,15 @@ fn has_id(signal: SignalParts<'_>) -> bool
         SignalParts::UnlinkId { id, .. } | SignalParts::UnlinkIdAck { id, .. } => id != 0,
         SignalParts::Link { .. }
         | SignalParts::Send { .. }
+        | SignalParts::RegSend { .. }
         | SignalParts::Exit { .. }
         | SignalParts::Exit2 { .. }
         | SignalParts::Monitor { .. }
+        | SignalParts::MonitorName { .. }
         | SignalParts::Demonitor { .. }
-        | SignalParts::MonitorExit { .. } => true,
+        | SignalParts::DemonitorName { .. }
+        | SignalParts::MonitorExit { .. }
+        | SignalParts::MonitorNameExit { .. } => true,
     }
 }
 
@@ -49,6 +53,18 @@ fn opening_len(arity: u32, tag: u64) -> usize
     ensures bound { result ≤ 25 }
 {
     1 + tuple_head_len(arity as usize) + integer_len(i128::from(tag))
+}
+
+/// Returns the number of bytes of the text of REG_SEND, where the message fits.
+fn reg_send_len(from: &Pid, name: &Atom, message: &Payload) -> Option<usize>
+    ensures none { IfNone result (¬ Fits message.now) }
+    ensures fits { IfSome result (λ _. Fits message.now) }
+    ensures len { IfSome result (λ n. n ≡ length (canonical_text (variant.RegSend from.now name.now message.now) false)) }
+    ensures bound { IfSome result (λ n. n < 1048576) }
+    ensures in_range { IfSome result (λ _. IsInRange (control_in (atom []) (variant.RegSend from.now name.now message.now) false)) }
+{
+    let len = pid_len(from) + EMPTY_ATOM.len() + atom_len(name) + 1 + payload_len(message)?;
+    Some(opening_len(tags::REG_SEND_ARITY, tags::REG_SEND) + len)
 }
 
 /// Returns the number of bytes of a row of From, To and Reason, where the reason fits.
@@ -71,6 +87,16 @@ fn monitor_len(tag: u64, from: &Pid, to: &Pid, reference: &Reference) -> usize
 {
     let len = reference_len(reference);
     opening_len(tags::MONITOR_P_ARITY, tag) + pid_len(from) + pid_len(to) + len
+}
+
+/// Returns the number of bytes of a row of From, To and Ref, where To is a registered name.
+fn monitor_name_len(tag: u64, from: &Pid, name: &Atom, reference: &Reference) -> usize
+    ensures len { result ≡ length (canonical (row tag (term.pid from.now ∷ term.atom name.now ∷ term.reference reference.now ∷ []))) }
+    ensures bound { result < 1048576 }
+    ensures in_range { IsInRange (row tag (term.pid from.now ∷ term.atom name.now ∷ term.reference reference.now ∷ [])) }
+{
+    let len = reference_len(reference);
+    opening_len(tags::MONITOR_P_ARITY, tag) + pid_len(from) + atom_len(name) + len
 }
 
 /// Returns the number of bytes of the text of PAYLOAD_EXIT or PAYLOAD_EXIT2, where the reason fits.
@@ -115,6 +141,43 @@ fn payload_monitor_exit_len(
     Some(opening_len(tags::PAYLOAD_MONITOR_P_EXIT_ARITY, tag) + len)
 }
 
+/// Returns the number of bytes of a row of From, To, Ref and Reason, where From is a registered name
+/// and the reason fits.
+fn monitor_name_exit_len(
+    name: &Atom,
+    to: &Pid,
+    reference: &Reference,
+    reason: &Payload,
+) -> Option<usize>
+    ensures none { IfNone result (¬ Fits reason.now) }
+    ensures fits { IfSome result (λ _. Fits reason.now) }
+    ensures len { IfSome result (λ n. n ≡ length (canonical (row MONITOR_P_EXIT (term.atom name.now ∷ term.pid to.now ∷ term.reference reference.now ∷ reason.now ∷ [])))) }
+    ensures bound { IfSome result (λ n. n < 1048576) }
+    ensures in_range { IfSome result (λ _. IsInRange (row MONITOR_P_EXIT (term.atom name.now ∷ term.pid to.now ∷ term.reference reference.now ∷ reason.now ∷ []))) }
+{
+    let len = payload_len(reason)? + reference_len(reference) + atom_len(name) + pid_len(to);
+    Some(opening_len(tags::MONITOR_P_EXIT_ARITY, tags::MONITOR_P_EXIT) + len)
+}
+
+/// Returns the number of bytes of the text of PAYLOAD_MONITOR_P_EXIT, where From is a registered name
+/// and the reason fits.
+fn payload_monitor_name_exit_len(
+    name: &Atom,
+    to: &Pid,
+    reference: &Reference,
+    reason: &Payload,
+) -> Option<usize>
+    ensures none { IfNone result (¬ Fits reason.now) }
+    ensures fits { IfSome result (λ _. Fits reason.now) }
+    ensures len { IfSome result (λ n. n ≡ length (canonical (row PAYLOAD_MONITOR_P_EXIT (term.atom name.now ∷ term.pid to.now ∷ term.reference reference.now ∷ [])) ++ canonical reason.now)) }
+    ensures bound { IfSome result (λ n. n < 1048576) }
+    ensures in_range { IfSome result (λ _. IsInRange (row PAYLOAD_MONITOR_P_EXIT (term.atom name.now ∷ term.pid to.now ∷ term.reference reference.now ∷ []))) }
+{
+    let len = payload_len(reason)? + 1 + reference_len(reference) + atom_len(name) + pid_len(to);
+    let tag = tags::PAYLOAD_MONITOR_P_EXIT;
+    Some(opening_len(tags::PAYLOAD_MONITOR_P_EXIT_ARITY, tag) + len)
+}
+
 /// Returns the number of bytes of a row of Id, From and To.
 fn unlink_len(tag: u64, id: u64, from: &Pid, to: &Pid) -> usize
     ensures len { result ≡ length (canonical (row tag (term.int (pos id) ∷ term.pid from.now ∷ term.pid to.now ∷ []))) }
@@ -141,6 +204,11 @@ fn text_len(signal: SignalParts<'_>, payload: bool) -> Option<usize>
             let len = EMPTY_ATOM.len() + pid_len(to) + 1 + payload_len(message)?;
             Some(opening_len(tags::SEND_ARITY, tags::SEND) + len)
         }
+        SignalParts::RegSend {
+            from,
+            name,
+            message,
+        } => reg_send_len(from, name, message),
         SignalParts::Exit { from, to, reason } if payload => {
             payload_exit_len(tags::PAYLOAD_EXIT, from, to, reason)
         }
@@ -154,11 +222,21 @@ fn text_len(signal: SignalParts<'_>, payload: bool) -> Option<usize>
             to,
             reference,
         } => Some(monitor_len(tags::MONITOR_P, from, to, reference)),
+        SignalParts::MonitorName {
+            from,
+            name,
+            reference,
+        } => Some(monitor_name_len(tags::MONITOR_P, from, name, reference)),
         SignalParts::Demonitor {
             from,
             to,
             reference,
         } => Some(monitor_len(tags::DEMONITOR_P, from, to, reference)),
+        SignalParts::DemonitorName {
+            from,
+            name,
+            reference,
+        } => Some(monitor_name_len(tags::DEMONITOR_P, from, name, reference)),
         SignalParts::MonitorExit {
             from,
             to,
@@ -171,6 +249,18 @@ fn text_len(signal: SignalParts<'_>, payload: bool) -> Option<usize>
             reference,
             reason,
         } => monitor_exit_len(from, to, reference, reason),
+        SignalParts::MonitorNameExit {
+            name,
+            to,
+            reference,
+            reason,
+        } if payload => payload_monitor_name_exit_len(name, to, reference, reason),
+        SignalParts::MonitorNameExit {
+            name,
+            to,
+            reference,
+            reason,
+        } => monitor_name_exit_len(name, to, reference, reason),
         SignalParts::UnlinkId { id, from, to } => Some(unlink_len(tags::UNLINK_ID, id, from, to)),
         SignalParts::UnlinkIdAck { id, from, to } => {
             Some(unlink_len(tags::UNLINK_ID_ACK, id, from, to))
@@ -223,6 +313,21 @@ fn write_send(out: &mut Vec<u8>, to: &Pid, message: &Payload)
     write_payload(out, message);
 }
 
+/// Writes the text of REG_SEND.
+#[tactic(auto, unfolding(erl_term::specs::Canonical::canonical_atom))]
+fn write_reg_send(out: &mut Vec<u8>, from: &Pid, name: &Atom, message: &Payload)
+    requires in_range { IsInRange message.now }
+    requires room { vec_len out.old + length (canonical_text (variant.RegSend from.now name.now message.now) false) ≤ vec_capacity out.old }
+    ensures items { out.new.items ≡ out.old.items ++ canonical_text (variant.RegSend from.now name.now message.now) false }
+{
+    write_opening(out, tags::REG_SEND_ARITY, tags::REG_SEND);
+    write_pid(out, from);
+    out.extend_from_slice(&EMPTY_ATOM).unwrap();
+    write_atom(out, name);
+    out.push_reserved(131);
+    write_payload(out, message);
+}
+
 /// Writes From, To and Reason behind the tag of their row.
 fn write_exit(out: &mut Vec<u8>, tag: u64, from: &Pid, to: &Pid, reason: &Payload)
     requires in_range { IsInRange reason.now }
@@ -241,6 +346,17 @@ fn write_monitor(out: &mut Vec<u8>, tag: u64, from: &Pid, to: &Pid, reference: &
 {
     write_opening(out, tags::MONITOR_P_ARITY, tag);
     write_pids(out, from, to);
+    write_reference(out, reference);
+}
+
+/// Writes the head of a row, and From, To and Ref behind it, where To is a registered name.
+fn write_monitor_name(out: &mut Vec<u8>, tag: u64, from: &Pid, name: &Atom, reference: &Reference)
+    requires room { vec_len out.old + length (canonical (row tag (term.pid from.now ∷ term.atom name.now ∷ term.reference reference.now ∷ []))) ≤ vec_capacity out.old }
+    ensures items { out.new.items ≡ out.old.items ++ canonical (row tag (term.pid from.now ∷ term.atom name.now ∷ term.reference reference.now ∷ [])) }
+{
+    write_opening(out, tags::MONITOR_P_ARITY, tag);
+    write_pid(out, from);
+    write_atom(out, name);
     write_reference(out, reference);
 }
 
@@ -297,6 +413,49 @@ fn write_payload_monitor_exit(
     write_payload(out, reason);
 }
 
+/// Writes the text of MONITOR_P_EXIT, where From is a registered name.
+fn write_monitor_name_exit(
+    out: &mut Vec<u8>,
+    name: &Atom,
+    to: &Pid,
+    reference: &Reference,
+    reason: &Payload,
+)
+    requires in_range { IsInRange reason.now }
+    requires room { vec_len out.old + length (canonical_text (variant.MonitorNameExit name.now to.now reference.now reason.now) false) ≤ vec_capacity out.old }
+    ensures items { out.new.items ≡ out.old.items ++ canonical_text (variant.MonitorNameExit name.now to.now reference.now reason.now) false }
+{
+    write_opening(out, tags::MONITOR_P_EXIT_ARITY, tags::MONITOR_P_EXIT);
+    write_atom(out, name);
+    write_pid(out, to);
+    write_reference(out, reference);
+    write_payload(out, reason);
+}
+
+/// Writes the text of PAYLOAD_MONITOR_P_EXIT, where From is a registered name.
+fn write_payload_monitor_name_exit(
+    out: &mut Vec<u8>,
+    name: &Atom,
+    to: &Pid,
+    reference: &Reference,
+    reason: &Payload,
+)
+    requires in_range { IsInRange reason.now }
+    requires room { vec_len out.old + length (canonical_text (variant.MonitorNameExit name.now to.now reference.now reason.now) true) ≤ vec_capacity out.old }
+    ensures items { out.new.items ≡ out.old.items ++ canonical_text (variant.MonitorNameExit name.now to.now reference.now reason.now) true }
+{
+    write_opening(
+        out,
+        tags::PAYLOAD_MONITOR_P_EXIT_ARITY,
+        tags::PAYLOAD_MONITOR_P_EXIT,
+    );
+    write_atom(out, name);
+    write_pid(out, to);
+    write_reference(out, reference);
+    out.push_reserved(131);
+    write_payload(out, reason);
+}
+
 /// Writes Id, From and To behind the head of their row.
 fn write_unlink(out: &mut Vec<u8>, tag: u64, id: u64, from: &Pid, to: &Pid)
     requires room { vec_len out.old + length (canonical (row tag (term.int (pos id) ∷ term.pid from.now ∷ term.pid to.now ∷ []))) ≤ vec_capacity out.old }
@@ -319,6 +478,11 @@ fn write_text(out: &mut Vec<u8>, signal: SignalParts<'_>, payload: bool)
             write_pids(out, from, to);
         }
         SignalParts::Send { to, message } => write_send(out, to, message),
+        SignalParts::RegSend {
+            from,
+            name,
+            message,
+        } => write_reg_send(out, from, name, message),
         SignalParts::Exit { from, to, reason } if payload => {
             write_payload_exit(out, tags::PAYLOAD_EXIT, from, to, reason)
         }
@@ -332,11 +496,21 @@ fn write_text(out: &mut Vec<u8>, signal: SignalParts<'_>, payload: bool)
             to,
             reference,
         } => write_monitor(out, tags::MONITOR_P, from, to, reference),
+        SignalParts::MonitorName {
+            from,
+            name,
+            reference,
+        } => write_monitor_name(out, tags::MONITOR_P, from, name, reference),
         SignalParts::Demonitor {
             from,
             to,
             reference,
         } => write_monitor(out, tags::DEMONITOR_P, from, to, reference),
+        SignalParts::DemonitorName {
+            from,
+            name,
+            reference,
+        } => write_monitor_name(out, tags::DEMONITOR_P, from, name, reference),
         SignalParts::MonitorExit {
             from,
             to,
@@ -349,6 +523,18 @@ fn write_text(out: &mut Vec<u8>, signal: SignalParts<'_>, payload: bool)
             reference,
             reason,
         } => write_monitor_exit(out, from, to, reference, reason),
+        SignalParts::MonitorNameExit {
+            name,
+            to,
+            reference,
+            reason,
+        } if payload => write_payload_monitor_name_exit(out, name, to, reference, reason),
+        SignalParts::MonitorNameExit {
+            name,
+            to,
+            reference,
+            reason,
+        } => write_monitor_name_exit(out, name, to, reference, reason),
         SignalParts::UnlinkId { id, from, to } => write_unlink(out, tags::UNLINK_ID, id, from, to),
         SignalParts::UnlinkIdAck { id, from, to } => write_unlink(
             out,

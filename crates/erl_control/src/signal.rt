@@ -1,4 +1,4 @@
-use erl_term::{Payload, Pid, Reference};
+use erl_term::{Atom, Payload, Pid, Reference};
 
 /// A signal from one process to another. (ERTS User's Guide, Distribution Protocol, Protocol
 /// between Connected Nodes and New Link Protocol.)
@@ -15,7 +15,16 @@ pub enum Signal {
     Send {
         /// The process that gets the message.
         to: Pid,
-        /// What is sent.
+        /// The message.
+        message: Payload,
+    },
+    /// REG_SEND: a message of `from` to the process that has a name at the receiving node.
+    RegSend {
+        /// The process that sends.
+        from: Pid,
+        /// The registered name.
+        name: Atom,
+        /// The message.
         message: Payload,
     },
     /// EXIT: `from` has ended, and was linked to `to`.
@@ -45,6 +54,15 @@ pub enum Signal {
         /// Tells this monitor from others.
         reference: Reference,
     },
+    /// MONITOR_P to a name: `from` monitors the process that has a name at the receiving node.
+    MonitorName {
+        /// The process that monitors, which owns the reference.
+        from: Pid,
+        /// The registered name.
+        name: Atom,
+        /// The reference of the monitor.
+        reference: Reference,
+    },
     /// DEMONITOR_P: `from` no longer monitors `to`.
     Demonitor {
         /// The process that monitored, which owns the reference.
@@ -54,10 +72,30 @@ pub enum Signal {
         /// The reference of the MONITOR_P that is taken back.
         reference: Reference,
     },
+    /// DEMONITOR_P to a name: `from` takes back its monitor of the process that it named so.
+    DemonitorName {
+        /// The process that monitored, which owns the reference.
+        from: Pid,
+        /// The registered name of its MONITOR_P.
+        name: Atom,
+        /// The reference of its MONITOR_P.
+        reference: Reference,
+    },
     /// MONITOR_P_EXIT: `from`, which `to` monitors, has ended.
     MonitorExit {
         /// The process that was monitored.
         from: Pid,
+        /// The process that monitored it, which owns the reference.
+        to: Pid,
+        /// The reference of the MONITOR_P.
+        reference: Reference,
+        /// Why it ended.
+        reason: Payload,
+    },
+    /// MONITOR_P_EXIT from a name: the process that `to` monitors by this name has ended.
+    MonitorNameExit {
+        /// The registered name of the MONITOR_P.
+        name: Atom,
         /// The process that monitored it, which owns the reference.
         to: Pid,
         /// The reference of the MONITOR_P.

@@ -3,7 +3,7 @@ ghost use Rattle.std.specs.Prelude.{◌≡◌};
 ghost use Rattle.erl_control.specs.Parts.{signal_of};
 
 use crate::signal::Signal;
-use erl_term::{Payload, Pid, Reference};
+use erl_term::{Atom, Payload, Pid, Reference};
 
 /// A signal whose pids, reference and payload are borrowed, so that it can be written without a
 /// copy of them. (ERTS User's Guide, Distribution Protocol, Protocol between Connected Nodes and
@@ -21,7 +21,16 @@ pub enum SignalParts<'a> {
     Send {
         /// The process that gets the message.
         to: &'a Pid,
-        /// What is sent.
+        /// The message.
+        message: &'a Payload,
+    },
+    /// REG_SEND.
+    RegSend {
+        /// The process that sends.
+        from: &'a Pid,
+        /// The registered name.
+        name: &'a Atom,
+        /// The message.
         message: &'a Payload,
     },
     /// EXIT.
@@ -51,6 +60,15 @@ pub enum SignalParts<'a> {
         /// Tells this monitor from others.
         reference: &'a Reference,
     },
+    /// MONITOR_P to a name.
+    MonitorName {
+        /// The process that monitors, which owns the reference.
+        from: &'a Pid,
+        /// The registered name.
+        name: &'a Atom,
+        /// The reference of the monitor.
+        reference: &'a Reference,
+    },
     /// DEMONITOR_P.
     Demonitor {
         /// The process that monitored, which owns the reference.
@@ -60,10 +78,30 @@ pub enum SignalParts<'a> {
         /// The reference of the MONITOR_P that is taken back.
         reference: &'a Reference,
     },
+    /// DEMONITOR_P to a name.
+    DemonitorName {
+        /// The process that monitored, which owns the reference.
+        from: &'a Pid,
+        /// The registered name of its MONITOR_P.
+        name: &'a Atom,
+        /// The reference of its MONITOR_P.
+        reference: &'a Reference,
+    },
     /// MONITOR_P_EXIT.
     MonitorExit {
         /// The process that was monitored.
         from: &'a Pid,
+        /// The process that monitored it, which owns the reference.
+        to: &'a Pid,
+        /// The reference of the MONITOR_P.
+        reference: &'a Reference,
+        /// Why it ended.
+        reason: &'a Payload,
+    },
+    /// MONITOR_P_EXIT from a name.
+    MonitorNameExit {
+        /// The registered name of the MONITOR_P.
+        name: &'a Atom,
         /// The process that monitored it, which owns the reference.
         to: &'a Pid,
         /// The reference of the MONITOR_P.
@@ -99,6 +137,15 @@ impl Signal {
         match self {
             Signal::Link { from, to } => SignalParts::Link { from, to },
             Signal::Send { to, message } => SignalParts::Send { to, message },
+            Signal::RegSend {
+                from,
+                name,
+                message,
+            } => SignalParts::RegSend {
+                from,
+                name,
+                message,
+            },
             Signal::Exit { from, to, reason } => SignalParts::Exit { from, to, reason },
             Signal::Exit2 { from, to, reason } => SignalParts::Exit2 { from, to, reason },
             Signal::Monitor {
@@ -110,6 +157,15 @@ impl Signal {
                 to,
                 reference,
             },
+            Signal::MonitorName {
+                from,
+                name,
+                reference,
+            } => SignalParts::MonitorName {
+                from,
+                name,
+                reference,
+            },
             Signal::Demonitor {
                 from,
                 to,
@@ -119,6 +175,15 @@ impl Signal {
                 to,
                 reference,
             },
+            Signal::DemonitorName {
+                from,
+                name,
+                reference,
+            } => SignalParts::DemonitorName {
+                from,
+                name,
+                reference,
+            },
             Signal::MonitorExit {
                 from,
                 to,
@@ -126,6 +191,17 @@ impl Signal {
                 reason,
             } => SignalParts::MonitorExit {
                 from,
+                to,
+                reference,
+                reason,
+            },
+            Signal::MonitorNameExit {
+                name,
+                to,
+                reference,
+                reason,
+            } => SignalParts::MonitorNameExit {
+                name,
                 to,
                 reference,
                 reason,

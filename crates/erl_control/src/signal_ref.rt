@@ -8,7 +8,7 @@ ghost use Rattle.erl_control.specs.Parts.{signal_in, item_in};
 
 use crate::fit::{MOST_PAYLOAD_BYTES, MOST_PAYLOAD_LEVELS};
 use crate::signal::{Item, Signal};
-use erl_term::{Payload, Pid, PidRef, Reference, ReferenceRef, TermRef};
+use erl_term::{Atom, AtomRef, Payload, Pid, PidRef, Reference, ReferenceRef, TermRef};
 use std::alloc::{AllocError, Global};
 
 /// A signal whose parts still lie in the bytes that were read. (ERTS User's Guide, Distribution
@@ -26,6 +26,15 @@ pub enum SignalRef<'a> {
     Send {
         /// The process that gets the message.
         to: PidRef<'a>,
+        /// The message.
+        message: TermRef<'a>,
+    },
+    /// REG_SEND.
+    RegSend {
+        /// The process that sends.
+        from: PidRef<'a>,
+        /// The registered name.
+        name: AtomRef<'a>,
         /// The message.
         message: TermRef<'a>,
     },
@@ -56,6 +65,15 @@ pub enum SignalRef<'a> {
         /// Tells this monitor from others.
         reference: ReferenceRef<'a>,
     },
+    /// MONITOR_P to a name.
+    MonitorName {
+        /// The process that monitors, which owns the reference.
+        from: PidRef<'a>,
+        /// The registered name.
+        name: AtomRef<'a>,
+        /// The reference of the monitor.
+        reference: ReferenceRef<'a>,
+    },
     /// DEMONITOR_P.
     Demonitor {
         /// The process that monitored, which owns the reference.
@@ -65,10 +83,30 @@ pub enum SignalRef<'a> {
         /// The reference of the MONITOR_P that is taken back.
         reference: ReferenceRef<'a>,
     },
+    /// DEMONITOR_P to a name.
+    DemonitorName {
+        /// The process that monitored, which owns the reference.
+        from: PidRef<'a>,
+        /// The registered name of its MONITOR_P.
+        name: AtomRef<'a>,
+        /// The reference of its MONITOR_P.
+        reference: ReferenceRef<'a>,
+    },
     /// MONITOR_P_EXIT.
     MonitorExit {
         /// The process that was monitored.
         from: PidRef<'a>,
+        /// The process that monitored it, which owns the reference.
+        to: PidRef<'a>,
+        /// The reference of the MONITOR_P.
+        reference: ReferenceRef<'a>,
+        /// Why it ended.
+        reason: TermRef<'a>,
+    },
+    /// MONITOR_P_EXIT from a name.
+    MonitorNameExit {
+        /// The registered name of the MONITOR_P.
+        name: AtomRef<'a>,
         /// The process that monitored it, which owns the reference.
         to: PidRef<'a>,
         /// The reference of the MONITOR_P.
@@ -124,19 +162,21 @@ impl<'a> SignalRef<'a> {
         ensures { IsTrue result ↔ Carries IsFit (signal_in self.now) }
     {
         match self {
-            SignalRef::Send { message, .. } => message.is_within(
-                MOST_PAYLOAD_LEVELS,
-                MOST_PAYLOAD_BYTES,
-            ),
+            SignalRef::Send { message, .. } | SignalRef::RegSend { message, .. } => {
+                message.is_within(MOST_PAYLOAD_LEVELS, MOST_PAYLOAD_BYTES)
+            }
             SignalRef::Exit { reason, .. }
             | SignalRef::Exit2 { reason, .. }
-            | SignalRef::MonitorExit { reason, .. } => reason.is_within(
+            | SignalRef::MonitorExit { reason, .. }
+            | SignalRef::MonitorNameExit { reason, .. } => reason.is_within(
                 MOST_PAYLOAD_LEVELS,
                 MOST_PAYLOAD_BYTES,
             ),
             SignalRef::Link { .. }
             | SignalRef::Monitor { .. }
+            | SignalRef::MonitorName { .. }
             | SignalRef::Demonitor { .. }
+            | SignalRef::DemonitorName { .. }
             | SignalRef::UnlinkId { .. }
             | SignalRef::UnlinkIdAck { .. } => true,
         }
@@ -152,6 +192,11 @@ impl<'a> SignalRef<'a> {
                 Ok(Signal::Link { from, to })
             }
             SignalRef::Send { to, message } => send_of(alloc, to, message),
+            SignalRef::RegSend {
+                from,
+                name,
+                message,
+            } => reg_send_of(alloc, from, name, message),
             SignalRef::Exit { from, to, reason } => exit_of(alloc, from, to, reason),
             SignalRef::Exit2 { from, to, reason } => exit2_of(alloc, from, to, reason),
             SignalRef::Monitor {
@@ -159,17 +204,33 @@ impl<'a> SignalRef<'a> {
                 to,
                 reference,
             } => monitor_of(alloc, from, to, reference),
+            SignalRef::MonitorName {
+                from,
+                name,
+                reference,
+            } => monitor_name_of(alloc, from, name, reference),
             SignalRef::Demonitor {
                 from,
                 to,
                 reference,
             } => demonitor_of(alloc, from, to, reference),
+            SignalRef::DemonitorName {
+                from,
+                name,
+                reference,
+            } => demonitor_name_of(alloc, from, name, reference),
             SignalRef::MonitorExit {
                 from,
                 to,
                 reference,
                 reason,
             } => monitor_exit_of(alloc, from, to, reference, reason),
+            SignalRef::MonitorNameExit {
+                name,
+                to,
+                reference,
+                reason,
+            } => monitor_name_exit_of(alloc, name, to, reference, reason),
             SignalRef::UnlinkId { id, from, to } => {
                 let (from, to) = pids_of(alloc, from, to)?;
                 Ok(Signal::UnlinkId { id: *id, from, to })
@@ -203,6 +264,21 @@ fn send_of(alloc: Global, to: &PidRef<'_>, message: &TermRef<'_>) -> Result<Sign
     })
 }
 
+fn reg_send_of(
+    alloc: Global,
+    from: &PidRef<'_>,
+    name: &AtomRef<'_>,
+    message: &TermRef<'_>,
+) -> Result<Signal, AllocError>
+    ensures { IfOk result (λ s. s ≡ variant.RegSend from.now name.now message.now) }
+{
+    Ok(Signal::RegSend {
+        from: from.to_pid(alloc)?,
+        name: name.to_atom(alloc)?,
+        message: payload_of(alloc, message)?,
+    })
+}
+
 fn pids_and_reason_of(
     alloc: Global,
     from: &PidRef<'_>,
@@ -225,6 +301,19 @@ fn pids_and_reference_of(
 {
     let (from, to) = pids_of(alloc, from, to)?;
     Ok((from, to, reference.to_reference(alloc)?))
+}
+
+fn pid_name_and_reference_of(
+    alloc: Global,
+    pid: &PidRef<'_>,
+    name: &AtomRef<'_>,
+    reference: &ReferenceRef<'_>,
+) -> Result<(Pid, Atom, Reference), AllocError>
+    ensures { IfOk result (λ x. (x.0 ≡ pid.now) × (x.1 ≡ name.now) × (x.2 ≡ reference.now)) }
+{
+    let pid = pid.to_pid(alloc)?;
+    let name = name.to_atom(alloc)?;
+    Ok((pid, name, reference.to_reference(alloc)?))
 }
 
 fn exit_of(
@@ -296,6 +385,57 @@ fn monitor_exit_of(
     let reason = payload_of(alloc, reason)?;
     Ok(Signal::MonitorExit {
         from,
+        to,
+        reference,
+        reason,
+    })
+}
+
+fn monitor_name_of(
+    alloc: Global,
+    from: &PidRef<'_>,
+    name: &AtomRef<'_>,
+    reference: &ReferenceRef<'_>,
+) -> Result<Signal, AllocError>
+    ensures { IfOk result (λ s. s ≡ variant.MonitorName from.now name.now reference.now) }
+{
+    let (from, name, reference) = pid_name_and_reference_of(alloc, from, name, reference)?;
+    Ok(Signal::MonitorName {
+        from,
+        name,
+        reference,
+    })
+}
+
+fn demonitor_name_of(
+    alloc: Global,
+    from: &PidRef<'_>,
+    name: &AtomRef<'_>,
+    reference: &ReferenceRef<'_>,
+) -> Result<Signal, AllocError>
+    ensures { IfOk result (λ s. s ≡ variant.DemonitorName from.now name.now reference.now) }
+{
+    let (from, name, reference) = pid_name_and_reference_of(alloc, from, name, reference)?;
+    Ok(Signal::DemonitorName {
+        from,
+        name,
+        reference,
+    })
+}
+
+fn monitor_name_exit_of(
+    alloc: Global,
+    name: &AtomRef<'_>,
+    to: &PidRef<'_>,
+    reference: &ReferenceRef<'_>,
+    reason: &TermRef<'_>,
+) -> Result<Signal, AllocError>
+    ensures { IfOk result (λ s. s ≡ variant.MonitorNameExit name.now to.now reference.now reason.now) }
+{
+    let (to, name, reference) = pid_name_and_reference_of(alloc, to, name, reference)?;
+    let reason = payload_of(alloc, reason)?;
+    Ok(Signal::MonitorNameExit {
+        name,
         to,
         reference,
         reason,

@@ -12,6 +12,11 @@ pub const SEND: u64 = 2;
 /// With its tag.
 pub const SEND_ARITY: u32 = 3;
 
+/// REG_SEND is `{6, From, Unused, ToName}`, and a message follows it.
+pub const REG_SEND: u64 = 6;
+/// With its tag.
+pub const REG_SEND_ARITY: u32 = 4;
+
 /// EXIT is `{3, From, To, Reason}`.
 pub const EXIT: u64 = 3;
 /// With its tag.
@@ -22,17 +27,17 @@ pub const EXIT2: u64 = 8;
 /// With its tag.
 pub const EXIT2_ARITY: u32 = 4;
 
-/// MONITOR_P is `{19, From, To, Ref}`.
+/// MONITOR_P is `{19, From, To, Ref}`. To can be a registered name.
 pub const MONITOR_P: u64 = 19;
 /// With its tag.
 pub const MONITOR_P_ARITY: u32 = 4;
 
-/// DEMONITOR_P is `{20, From, To, Ref}`.
+/// DEMONITOR_P is `{20, From, To, Ref}`. To can be a registered name.
 pub const DEMONITOR_P: u64 = 20;
 /// With its tag.
 pub const DEMONITOR_P_ARITY: u32 = 4;
 
-/// MONITOR_P_EXIT is `{21, From, To, Ref, Reason}`.
+/// MONITOR_P_EXIT is `{21, From, To, Ref, Reason}`. From can be a registered name.
 pub const MONITOR_P_EXIT: u64 = 21;
 /// With its tag.
 pub const MONITOR_P_EXIT_ARITY: u32 = 5;

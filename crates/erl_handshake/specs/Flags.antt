@@ -35,7 +35,8 @@ mandatory_flags = ExtendedReferences ∷ DistMonitor ∷ ExtendedPidsPorts ∷ U
 abbrev pub mandatory : ℕ
 mandatory = 0x40305010C
 
--- what a node of a profile offers: the mandatory flags, and in the second EXIT_PAYLOAD too
+-- what a node of a profile offers: the mandatory flags, from the second on EXIT_PAYLOAD, and in the third DIST_MONITOR_NAME too
 abbrev pub flags_of : Profile → ℕ
 flags_of profile.One = mandatory
 flags_of profile.Two = 0x40345010C
+flags_of profile.Three = 0x40345012C

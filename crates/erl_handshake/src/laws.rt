@@ -51,13 +51,16 @@ pub fn flags_by_bits()
     ensures mandatory { (word : ℕ) → IsTrue (has_all_of word mandatory) ↔ AllPass (offers word) mandatory_flags }
 {}
 
-/// Proves that each profile has all flags that are mandatory. The second offers EXIT_PAYLOAD, and the
-/// first doesn't; neither offers DIST_MONITOR_NAME.
+/// Proves that each profile has all flags that are mandatory. From the second on a profile offers
+/// EXIT_PAYLOAD, and the third alone offers DIST_MONITOR_NAME.
 pub fn flags_of_profiles()
     ensures mandatory { (p : Profile) → has_all_of (flags_of p) mandatory ≡ true }
     ensures no_payload { offers (flags_of profile.One) Flag.ExitPayload ≡ false }
     ensures payload { offers (flags_of profile.Two) Flag.ExitPayload ≡ true }
-    ensures no_names { (p : Profile) → offers (flags_of p) Flag.DistMonitorName ≡ false }
+    ensures third_payload { offers (flags_of profile.Three) Flag.ExitPayload ≡ true }
+    ensures first_names { offers (flags_of profile.One) Flag.DistMonitorName ≡ false }
+    ensures second_names { offers (flags_of profile.Two) Flag.DistMonitorName ≡ false }
+    ensures names { offers (flags_of profile.Three) Flag.DistMonitorName ≡ true }
 {}
 
 /// A digest has 16 bytes. The challenge in decimal is 0, or begins with no 0; and no two challenges

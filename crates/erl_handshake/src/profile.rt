@@ -12,6 +12,8 @@ pub enum Profile {
     One,
     /// The mandatory flags and [`Flag::ExitPayload`](crate::Flag::ExitPayload).
     Two,
+    /// The flags of [`Profile::Two`] and [`Flag::DistMonitorName`](crate::Flag::DistMonitorName).
+    Three,
 }
 
 impl Profile {
@@ -23,6 +25,7 @@ impl Profile {
         match self {
             Profile::One => Flags::mandatory(),
             Profile::Two => Flags::from_bits(0x4_0345_010C),
+            Profile::Three => Flags::from_bits(0x4_0345_012C),
         }
     }
 }

@@ -118,7 +118,10 @@ fn on_item(creation: u32, item: &Item) -> Due {
 
 fn names_rightly(creation: u32, signal: &Signal) -> bool {
     match signal {
-        Signal::Send { to, .. } => is_spawned_here(to),
+        Signal::Send { to, .. } | Signal::MonitorNameExit { to, .. } => is_spawned_here(to),
+        Signal::RegSend { from, .. }
+        | Signal::MonitorName { from, .. }
+        | Signal::DemonitorName { from, .. } => is_of_peer(creation, from),
         Signal::Link { from, to }
         | Signal::Exit { from, to, .. }
         | Signal::Exit2 { from, to, .. }
@@ -126,10 +129,13 @@ fn names_rightly(creation: u32, signal: &Signal) -> bool {
         | Signal::Demonitor { from, to, .. }
         | Signal::MonitorExit { from, to, .. }
         | Signal::UnlinkId { from, to, .. }
-        | Signal::UnlinkIdAck { from, to, .. } => {
-            from.node.text() == "b@h" && from.creation <= creation && is_spawned_here(to)
-        }
+        | Signal::UnlinkIdAck { from, to, .. } => is_of_peer(creation, from) && is_spawned_here(to),
     }
+}
+
+// b@h is known in this creation.
+fn is_of_peer(creation: u32, pid: &Pid) -> bool {
+    pid.node.text() == "b@h" && pid.creation <= creation
 }
 
 // a@h is in its first incarnation, and has spawned P alone.

@@ -120,6 +120,11 @@ pub const ALL: &[Sample] = &[
         bytes: b"\0\0\0\x1Fp\x83h\x03a\x02w\0Xw\x03a@h\0\0\0\x01\0\0\0\0\0\0\0\x01\x83w\x02hi",
     },
     Sample {
+        name: "REG_SEND",
+        reader: Reader::Connected,
+        bytes: b"\0\0\0$p\x83h\x04a\x06Xw\x03b@h\0\0\0\x01\0\0\0\0\0\0\0\x01w\0w\x03srv\x83w\x02hi",
+    },
+    Sample {
         name: "EXIT",
         reader: Reader::Connected,
         bytes: b"\0\0\0\x30p\x83h\x04a\x03Xw\x03b@h\0\0\0\x01\0\0\0\0\0\0\0\x01Xw\x03a@h\0\0\0\x01\0\0\0\0\0\0\0\x01w\x04boom",
@@ -143,6 +148,21 @@ pub const ALL: &[Sample] = &[
         name: "MONITOR_P_EXIT",
         reader: Reader::Connected,
         bytes: b"\0\0\0Hp\x83h\x05a\x15Xw\x03b@h\0\0\0\x01\0\0\0\0\0\0\0\x01Xw\x03a@h\0\0\0\x01\0\0\0\0\0\0\0\x01Z\0\x03w\x03a@h\0\0\0\x01\0\0\0\x01\0\0\0\0\0\0\0\0w\x04boom",
+    },
+    Sample {
+        name: "MONITOR_P to a name",
+        reader: Reader::Connected,
+        bytes: b"\0\0\05p\x83h\x04a\x13Xw\x03b@h\0\0\0\x01\0\0\0\0\0\0\0\x01w\x03srvZ\0\x03w\x03b@h\0\0\0\x01\0\0\0\x01\0\0\0\0\0\0\0\0",
+    },
+    Sample {
+        name: "DEMONITOR_P to a name",
+        reader: Reader::Connected,
+        bytes: b"\0\0\05p\x83h\x04a\x14Xw\x03b@h\0\0\0\x01\0\0\0\0\0\0\0\x01w\x03srvZ\0\x03w\x03b@h\0\0\0\x01\0\0\0\x01\0\0\0\0\0\0\0\0",
+    },
+    Sample {
+        name: "MONITOR_P_EXIT from a name",
+        reader: Reader::Connected,
+        bytes: b"\0\0\0;p\x83h\x05a\x15w\x03srvXw\x03a@h\0\0\0\x01\0\0\0\0\0\0\0\x01Z\0\x03w\x03a@h\0\0\0\x01\0\0\0\x01\0\0\0\0\0\0\0\0w\x04boom",
     },
     Sample {
         name: "UNLINK_ID",

@@ -80,12 +80,6 @@ is_this (Some held) watch = eq_by_cmp pid_cmp held.owner watch.owner && same_tar
 abbrev pub is_held : {M : Type 0} → (M → Watch) → MonitorMap M → Reference → Watch → Bool
 is_held seen_as monitors reference watch = is_this (option_map seen_as (map.get monitors reference)) watch
 
-abbrev pub is_watched : WatchMap → Reference → Watch → Bool
-is_watched = is_held itself
-
-abbrev pub is_registered : RegistrationMap → Reference → Watch → Bool
-is_registered = is_held as_watch
-
 -- of the monitors that pass, the one of the least reference
 pub record IsLeast {M : Type 0} (monitors : MonitorMap M) (passes : M → Bool) (reference : Reference) (monitor : M) : Type 0 where
   pub held : map.get monitors reference ≡ Some monitor

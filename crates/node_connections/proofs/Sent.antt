@@ -23,9 +23,11 @@ an_id id h = let some = h.0 in let low = h.1 in and_from (nat_le 1 id) (nat_lt i
 
 sendable_from : (signal : Signal) → IsSendable signal → is_sendable signal ≡ true
 sendable_from (Signal.Send to message) h = (fits_test message).1 h.1
+sendable_from (Signal.RegSend from name message) h = (fits_test message).1 h.1
 sendable_from (Signal.Exit from to reason) h = (fits_test reason).1 h.1
 sendable_from (Signal.Exit2 from to reason) h = (fits_test reason).1 h.1
 sendable_from (Signal.MonitorExit from to r reason) h = (fits_test reason).1 h.1
+sendable_from (Signal.MonitorNameExit name to r reason) h = (fits_test reason).1 h.1
 sendable_from (Signal.UnlinkId id from to) h = and_from _ true (an_id id h.0) refl
 sendable_from (Signal.UnlinkIdAck id from to) h = and_from _ true (an_id id h.0) refl
 sendable_from _ h = refl

@@ -46,7 +46,7 @@ fn take_signal(
         return break_side(plan, side, Fault::Forged);
     }
     plan.answers(Answer::Took(kind(signal)));
-    or_refuse(take(alloc, node, plan, signal))
+    or_refuse(take(alloc, node, plan, side.peer.atom(), signal))
 }
 
 // A frame comes on a connection that is up.

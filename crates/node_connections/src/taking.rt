@@ -1,5 +1,5 @@
 //! The plan by which a record goes.
-ghost use Rattle.std.specs.Prelude.{◌≡◌, true, IfOk};
+ghost use Rattle.std.specs.Prelude.{◌≡◌, true};
 ghost use Rattle.dist_model.specs.Losses.{sweep_end};
 ghost use Rattle.dist_model.specs.Monitoring.{unregister, unwatch};
 ghost use Rattle.dist_model.specs.Node as model;
@@ -12,12 +12,11 @@ ghost use Rattle.node_plan.specs.Carried.{Carries, CarriesOut, IsBlank};
 ghost use Rattle.node_plan.specs.Plans.{told};
 ghost use Rattle.node_plan.specs.Seen.{seen};
 
-use erl_term::{Payload, Pid, Reference};
-use exit_core::{down_message, named_down_message};
+use erl_term::{Pid, Reference};
 use link_core::End;
-use monitor_core::{Target, Watch};
-use node_plan::{Node, Plan, copied};
-use node_processes::{break_link, is_active, no_connection};
+use monitor_core::Watch;
+use node_plan::{Node, Plan, TargetParts, copied};
+use node_processes::{break_link, down, is_active, no_connection};
 use node_tables::EndChange;
 use std::alloc::{AllocError, Global};
 
@@ -46,20 +45,6 @@ pub(crate) fn take_link(
     }
 }
 
-// Returns DOWN of the target with noconnection.
-fn down(alloc: Global, reference: &Reference, target: &Target) -> Result<Payload, AllocError>
-    ensures { IfOk result (λ m. m ≡ down_term reference.now (object target.now) noconnection) }
-{
-    let reason = no_connection(alloc)?;
-    let reference = copied(reference)?;
-    match target {
-        Target::Pid(pid) => down_message(alloc, reference, pid.clone()?, reason),
-        Target::Name { name, node } => {
-            named_down_message(alloc, reference, name.clone()?, node.clone()?, reason)
-        }
-    }
-}
-
 /// Plans that a monitor goes whose target isn't reached any more, and that its owner gets DOWN. (Reference Manual,
 /// Processes, Monitors.)
 ///
@@ -76,7 +61,8 @@ pub(crate) fn take_watch(
         Carries m (put watch.now.owner (down_term reference.now (object watch.now.target) noconnection) (unwatch reference.now work)) plan.new result }
     ensures told { (m : TheNode) → told plan.new m ≡ told plan.old m }
 {
-    let message = down(alloc, reference, &watch.target)?;
+    let reason = no_connection(alloc)?;
+    let message = down(alloc, reference, TargetParts::of(&watch.target), reason)?;
     plan.unwatch(copied(reference)?);
     plan.put(alloc, &watch.owner, message)
 }

@@ -11,12 +11,14 @@ abbrev tag_within : Signal → ℕ
 tag_within (Signal.Exit from to reason) = 3
 tag_within (Signal.Exit2 from to reason) = 8
 tag_within (Signal.MonitorExit from to r reason) = 21
+tag_within (Signal.MonitorNameExit name to r reason) = 21
 tag_within signal = 0
 
 abbrev tag_before : Signal → ℕ
 tag_before (Signal.Exit from to reason) = 24
 tag_before (Signal.Exit2 from to reason) = 26
 tag_before (Signal.MonitorExit from to r reason) = 28
+tag_before (Signal.MonitorNameExit name to r reason) = 28
 tag_before signal = 1
 
 within_is : (s : Signal) → has_reason s ≡ true → byte_at (canonical_frame s false) 9 ≡ tag_within s
@@ -24,6 +26,7 @@ unfolding canonical_head canonical_int
 within_is (Signal.Exit from to reason) h = refl
 within_is (Signal.Exit2 from to reason) h = refl
 within_is (Signal.MonitorExit from to r reason) h = refl
+within_is (Signal.MonitorNameExit name to r reason) h = refl
 within_is s h = absurd (let no : false ≡ true = h in cc)
 
 before_is : (s : Signal) → has_reason s ≡ true → byte_at (canonical_frame s true) 9 ≡ tag_before s
@@ -31,12 +34,14 @@ unfolding canonical_head canonical_int
 before_is (Signal.Exit from to reason) h = refl
 before_is (Signal.Exit2 from to reason) h = refl
 before_is (Signal.MonitorExit from to r reason) h = refl
+before_is (Signal.MonitorNameExit name to r reason) h = refl
 before_is s h = absurd (let no : false ≡ true = h in cc)
 
 tags_rise : (s : Signal) → tag_within s < tag_before s
 tags_rise (Signal.Exit from to reason) = omega arith
 tags_rise (Signal.Exit2 from to reason) = omega arith
 tags_rise (Signal.MonitorExit from to r reason) = omega arith
+tags_rise (Signal.MonitorNameExit name to r reason) = omega arith
 tags_rise s = omega arith
 
 apart : (n k : ℕ) → k < n → n ≡ k → ⊥

@@ -14,9 +14,11 @@ an_id id h =
 
 pub sendable_is : (signal : Signal) → is_sendable signal ≡ true → IsSendable signal
 sendable_is (Signal.Send to message) h = (tt, (fits_test message).0 h)
+sendable_is (Signal.RegSend from name message) h = (tt, (fits_test message).0 h)
 sendable_is (Signal.Exit from to reason) h = (tt, (fits_test reason).0 h)
 sendable_is (Signal.Exit2 from to reason) h = (tt, (fits_test reason).0 h)
 sendable_is (Signal.MonitorExit from to r reason) h = (tt, (fits_test reason).0 h)
+sendable_is (Signal.MonitorNameExit name to r reason) h = (tt, (fits_test reason).0 h)
 sendable_is (Signal.UnlinkId id from to) h = (an_id id (and_parts (nat_le 1 id && nat_lt id (2 ^ 64)) true h).0, tt)
 sendable_is (Signal.UnlinkIdAck id from to) h = (an_id id (and_parts (nat_le 1 id && nat_lt id (2 ^ 64)) true h).0, tt)
 sendable_is _ h = (tt, tt)

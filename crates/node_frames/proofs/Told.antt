@@ -80,6 +80,8 @@ tag_is (Signal.Exit2 from to reason) true = refl
 tag_is (Signal.Exit2 from to reason) false = refl
 tag_is (Signal.MonitorExit from to r reason) true = refl
 tag_is (Signal.MonitorExit from to r reason) false = refl
+tag_is (Signal.MonitorNameExit name to r reason) true = refl
+tag_is (Signal.MonitorNameExit name to r reason) false = refl
 tag_is signal payload = refl
 
 pub kind_is_told : (item : Item) → IsSpelled item → kind_in (bytes_of item) ≡ Some (kind_of item)

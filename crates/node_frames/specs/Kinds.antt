@@ -31,6 +31,7 @@ abbrev pub signal_kind : (tag : ℕ) → Option Kind
 signal_kind tag =
     if tag == 1 then Some kind.Link
     else if tag == 2 then Some kind.Send
+    else if tag == 6 then Some kind.RegSend
     else if tag == 3 || tag == 24 then Some kind.Exit
     else if tag == 8 || tag == 26 then Some kind.Exit2
     else if tag == 19 then Some kind.Monitor

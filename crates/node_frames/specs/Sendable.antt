@@ -6,9 +6,11 @@ use Rattle.erl_control.specs.declared.signal.Signal.{Signal}
 
 abbrev pub carries_fit : Signal → Bool
 carries_fit (Signal.Send to message) = fits message
+carries_fit (Signal.RegSend from name message) = fits message
 carries_fit (Signal.Exit from to reason) = fits reason
 carries_fit (Signal.Exit2 from to reason) = fits reason
 carries_fit (Signal.MonitorExit from to r reason) = fits reason
+carries_fit (Signal.MonitorNameExit name to r reason) = fits reason
 carries_fit _ = true
 
 abbrev pub has_id : Signal → Bool

@@ -49,7 +49,10 @@ fn has_reason(signal: &Signal) -> bool
 {
     matches!(
         signal,
-        Signal::Exit { .. } | Signal::Exit2 { .. } | Signal::MonitorExit { .. }
+        Signal::Exit { .. }
+            | Signal::Exit2 { .. }
+            | Signal::MonitorExit { .. }
+            | Signal::MonitorNameExit { .. }
     )
 }
 

@@ -49,6 +49,7 @@ fn signal_kind(tag: u8) -> Option<Kind>
     match tag {
         1 => Some(Kind::Link),
         2 => Some(Kind::Send),
+        6 => Some(Kind::RegSend),
         3 | 24 => Some(Kind::Exit),
         8 | 26 => Some(Kind::Exit2),
         19 => Some(Kind::Monitor),

@@ -22,7 +22,7 @@ pub fn same_pid(a: &Pid, b: &Pid) -> bool
     a.cmp(b).is_eq()
 }
 
-/// Returns the process that a signal names as its receiver.
+/// Returns the process that a signal names as its receiver. A signal to a registered name names none.
 pub fn receiver(signal: &Signal) -> Option<&Pid>
     ensures { option_copied result ≡ receiver_of signal.now }
 {
@@ -34,22 +34,28 @@ pub fn receiver(signal: &Signal) -> Option<&Pid>
         | Signal::Monitor { to, .. }
         | Signal::Demonitor { to, .. }
         | Signal::MonitorExit { to, .. }
+        | Signal::MonitorNameExit { to, .. }
         | Signal::UnlinkId { to, .. }
         | Signal::UnlinkIdAck { to, .. } => Some(to),
+        Signal::RegSend { .. } | Signal::MonitorName { .. } | Signal::DemonitorName { .. } => None,
     }
 }
 
-/// Returns the process that a signal names as its sender. A SEND names none.
+/// Returns the process that a signal names as its sender. A SEND names none, and neither does a
+/// MONITOR_P_EXIT from a registered name.
 pub fn sender(signal: &Signal) -> Option<&Pid>
     ensures { option_copied result ≡ sender_of signal.now }
 {
     match signal {
-        Signal::Send { .. } => None,
+        Signal::Send { .. } | Signal::MonitorNameExit { .. } => None,
         Signal::Link { from, .. }
+        | Signal::RegSend { from, .. }
         | Signal::Exit { from, .. }
         | Signal::Exit2 { from, .. }
         | Signal::Monitor { from, .. }
+        | Signal::MonitorName { from, .. }
         | Signal::Demonitor { from, .. }
+        | Signal::DemonitorName { from, .. }
         | Signal::MonitorExit { from, .. }
         | Signal::UnlinkId { from, .. }
         | Signal::UnlinkIdAck { from, .. } => Some(from),

@@ -9,7 +9,7 @@ use Rattle.dist_model.specs.Losses.{lose, lose_at}
 use Rattle.dist_model.specs.Monitoring.{demonitor_by}
 use Rattle.dist_model.specs.Names.{Name, same_name, same_pid}
 use Rattle.dist_model.specs.Naming.{name_of}
-use Rattle.dist_model.specs.Node.{Node, end_of, ends_of, is_stranger, living, side_where}
+use Rattle.dist_model.specs.Node.{Node, end_of, ends_of, is_stranger, living, monitors_names, side_where}
 use Rattle.dist_model.specs.NodeEvents as model
 use Rattle.dist_model.specs.NodeEvents.{at_node}
 use Rattle.dist_model.specs.Sides as side
@@ -86,12 +86,16 @@ module _ (spare : Spare) where
         by_id (id_of m.mint kind.Pid) _
         (λ id. ap (λ n. Answer.Pid (record { node = n; creation = m.mint.creation; id = id; serial = 0 })) atom)
     called (command.Send p q term) message holder links up = towards p q _ (only_if (fits term) Refusal.TooLong _ refl)
+    called (command.SendName p target name term) message holder links up = acted p _ (only_if (fits term) Refusal.TooLong _ refl)
     called (command.Link p q) message holder links up = towards p q _ refl
     called (command.Unlink p q) message holder links up =
         towards p q _ (either_way (is_active (end_of m p q)) _ _ (by_id (id_of m.mint kind.UnlinkId) _ (λ id. refl)) refl)
     called (command.Monitor p q) message holder links up =
         towards p q _ (by_id (id_of m.mint kind.Reference) _
         (λ count. ap (λ n. Answer.Reference (record (reference_of m.mint count) { node = n })) atom))
+    called (command.MonitorName p target name) message holder links up =
+        acted p _ (only_if (monitors_names m target) Refusal.NotOffered _ (by_id (id_of m.mint kind.Reference) _
+        (λ count. ap (λ n. Answer.Reference (record (reference_of m.mint count) { node = n })) atom)))
     called (command.Demonitor p r) message holder links up = acted p _ (watched (fm.get m.watches r) p r (at_work m))
     called (command.Trap p on) message holder links up = acted p _ refl
     called (command.ExitTo p q reason) message holder links up = towards p q _ (only_if (fits reason) Refusal.TooLong _ refl)

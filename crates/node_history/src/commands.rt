@@ -19,6 +19,25 @@ pub(crate) fn is_same_command(a: &Command, b: &Command) -> bool
             },
         ) => from.is_same(sender) && to.is_same(receiver) && is_same_payload(message, other),
         (
+            Command::SendName {
+                from,
+                node,
+                name,
+                message,
+            },
+            Command::SendName {
+                from: sender,
+                node: target,
+                name: holder,
+                message: other,
+            },
+        ) => {
+            from.is_same(sender)
+                && node == target
+                && name == holder
+                && is_same_payload(message, other)
+        }
+        (
             Command::Link { from, to },
             Command::Link {
                 from: other,
@@ -39,6 +58,14 @@ pub(crate) fn is_same_command(a: &Command, b: &Command) -> bool
                 target: watched,
             },
         ) => owner.is_same(other) && target.is_same(watched),
+        (
+            Command::MonitorName { owner, node, name },
+            Command::MonitorName {
+                owner: other,
+                node: target,
+                name: watched,
+            },
+        ) => owner.is_same(other) && node == target && name == watched,
         (
             Command::Demonitor { owner, reference },
             Command::Demonitor {

@@ -41,6 +41,17 @@ pub(crate) fn copied(alloc: Global, command: &Command) -> Result<Command, AllocE
             let (from, to, message) = two_and(alloc, from, to, message)?;
             Ok(Command::Send { from, to, message })
         }
+        Command::SendName {
+            from,
+            node,
+            name,
+            message,
+        } => Ok(Command::SendName {
+            from: from.clone()?,
+            node: node.clone()?,
+            name: name.clone()?,
+            message: message.copy(alloc)?,
+        }),
         Command::Link { from, to } => {
             let (from, to) = two(from, to)?;
             Ok(Command::Link { from, to })
@@ -53,6 +64,11 @@ pub(crate) fn copied(alloc: Global, command: &Command) -> Result<Command, AllocE
             let (owner, target) = two(owner, target)?;
             Ok(Command::Monitor { owner, target })
         }
+        Command::MonitorName { owner, node, name } => Ok(Command::MonitorName {
+            owner: owner.clone()?,
+            node: node.clone()?,
+            name: name.clone()?,
+        }),
         Command::ExitTo { from, to, reason } => {
             let (from, to, reason) = two_and(alloc, from, to, reason)?;
             Ok(Command::ExitTo { from, to, reason })

@@ -1,5 +1,6 @@
 pub mod Changed
 pub mod Suits
+pub mod Targets
 pub mod Fresh
 pub mod RoomForChanges
 pub mod Registering

@@ -32,6 +32,7 @@ mod setting;
 mod sides;
 mod siding;
 mod signals;
+mod target;
 mod telling;
 
 pub use change::{Change, Draws, LifeChange, LinkChange, MonitorChange};
@@ -46,4 +47,8 @@ pub use refusing::or_refuse;
 pub use registering::{changes_towards, registers_towards, watches_towards};
 pub use sending::{push_message, push_signal_here, push_signal_there};
 pub use sides::change_sides;
-pub use signals::{demonitor_signal, link_signal, monitor_signal};
+pub use signals::{
+    demonitor_name_signal, demonitor_signal, link_signal, monitor_exit_signal,
+    monitor_name_exit_signal, monitor_name_signal, monitor_signal,
+};
+pub use target::TargetParts;

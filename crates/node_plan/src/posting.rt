@@ -42,6 +42,23 @@ impl Node {
     }
 }
 
+impl Node {
+    /// Returns true if a process here may monitor one of the node `peer` by its name. It may if no connection to
+    /// the peer is up, or if both nodes offer this. (ERTS User's Guide, Distribution Protocol, Distribution Flags,
+    /// DFLAG_DIST_MONITOR_NAME.)
+    pub fn offers_names(&self, peer: &Atom) -> bool
+        ensures { result ≡ model.monitors_names (seen self.now) peer.now }
+    {
+        if same_name(peer, self.name().atom()) {
+            return true;
+        }
+        match self.way(peer) {
+            None => true,
+            Some(side) => self.both_offer(side, Flag::DistMonitorName),
+        }
+    }
+}
+
 // Returns the flags that the peer has told. They are none before it has told any.
 fn told_flags(side: &Side) -> Flags
     ensures { result ≡ (side_of side.now).introduction.flags }

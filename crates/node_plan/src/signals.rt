@@ -5,7 +5,7 @@ ghost use Rattle.erl_control.specs.declared.signal.Signal.TheVariants as signals
 ghost use Rattle.link_core.specs.News.{Signals};
 
 use erl_control::Signal;
-use erl_term::{Pid, Reference};
+use erl_term::{Atom, Payload, Pid, Reference};
 use link_core::LinkSignal;
 use std::alloc::AllocError;
 
@@ -26,8 +26,8 @@ pub fn link_signal(from: &Pid, to: &Pid, signal: LinkSignal) -> Result<Signal, A
     })
 }
 
-/// The signal by which a process monitors another. (ERTS User's Guide, Distribution Protocol, Protocol
-/// between Connected Nodes.)
+/// Returns the signal by which a process monitors another. (ERTS User's Guide, Distribution Protocol,
+/// Protocol between Connected Nodes.)
 ///
 /// # Errors
 /// Where there is no memory for it.
@@ -41,8 +41,27 @@ pub fn monitor_signal(from: &Pid, to: &Pid, reference: &Reference) -> Result<Sig
     })
 }
 
-/// The signal by which a process takes a monitor back. (ERTS User's Guide, Distribution Protocol,
-/// Protocol between Connected Nodes.)
+/// Returns the signal by which a process monitors the one that has a name at the receiving node. (ERTS User's
+/// Guide, Distribution Protocol, Protocol between Connected Nodes.)
+///
+/// # Errors
+/// Where there is no memory for it.
+pub fn monitor_name_signal(
+    from: &Pid,
+    name: &Atom,
+    reference: &Reference,
+) -> Result<Signal, AllocError>
+    ensures { IfOk result (λ s. s ≡ signals.MonitorName from.now name.now reference.now) }
+{
+    Ok(Signal::MonitorName {
+        from: from.clone()?,
+        name: name.clone()?,
+        reference: reference.clone()?,
+    })
+}
+
+/// Returns the signal by which a process takes back its monitor of another. (ERTS User's Guide, Distribution
+/// Protocol, Protocol between Connected Nodes.)
 ///
 /// # Errors
 /// Where there is no memory for it.
@@ -53,5 +72,66 @@ pub fn demonitor_signal(from: &Pid, to: &Pid, reference: &Reference) -> Result<S
         from: from.clone()?,
         to: to.clone()?,
         reference: reference.clone()?,
+    })
+}
+
+/// Returns the signal by which a process takes back its monitor of a name. (ERTS User's Guide, Distribution
+/// Protocol, Protocol between Connected Nodes.)
+///
+/// # Errors
+/// Where there is no memory for it.
+pub fn demonitor_name_signal(
+    from: &Pid,
+    name: &Atom,
+    reference: &Reference,
+) -> Result<Signal, AllocError>
+    ensures { IfOk result (λ s. s ≡ signals.DemonitorName from.now name.now reference.now) }
+{
+    Ok(Signal::DemonitorName {
+        from: from.clone()?,
+        name: name.clone()?,
+        reference: reference.clone()?,
+    })
+}
+
+/// Returns the signal that tells the owner of a monitor that the process `from` has ended. (ERTS User's Guide,
+/// Distribution Protocol, Protocol between Connected Nodes.)
+///
+/// # Errors
+/// Where there is no memory for it.
+pub fn monitor_exit_signal(
+    from: &Pid,
+    to: &Pid,
+    reference: &Reference,
+    reason: Payload,
+) -> Result<Signal, AllocError>
+    ensures { IfOk result (λ s. s ≡ signals.MonitorExit from.now to.now reference.now reason) }
+{
+    Ok(Signal::MonitorExit {
+        from: from.clone()?,
+        to: to.clone()?,
+        reference: reference.clone()?,
+        reason,
+    })
+}
+
+/// Returns the signal that tells the owner of a monitor of `name` that its process has ended. (ERTS User's
+/// Guide, Distribution Protocol, Protocol between Connected Nodes.)
+///
+/// # Errors
+/// Where there is no memory for it.
+pub fn monitor_name_exit_signal(
+    name: &Atom,
+    to: &Pid,
+    reference: &Reference,
+    reason: Payload,
+) -> Result<Signal, AllocError>
+    ensures { IfOk result (λ s. s ≡ signals.MonitorNameExit name.now to.now reference.now reason) }
+{
+    Ok(Signal::MonitorNameExit {
+        name: name.clone()?,
+        to: to.clone()?,
+        reference: reference.clone()?,
+        reason,
     })
 }

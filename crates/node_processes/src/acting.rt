@@ -49,6 +49,18 @@ pub(crate) fn fits_in(payload: &Payload) -> Result<(), Refusal>
     }
 }
 
+/// Returns an error if a process may not monitor one of this node by its name.
+pub(crate) fn offers(node: &Node, name: &Atom) -> Result<(), Refusal>
+    ensures { (outcome : Outcome) → let due = calls.offering (seen node.now) name.now outcome in
+        MatchResult result (λ _. due ≡ outcome) (λ e. due ≡ Refuses e) }
+{
+    if node.offers_names(name) {
+        Ok(())
+    } else {
+        Err(Refusal::NotOffered)
+    }
+}
+
 /// Whether a signal to a process of that name's node goes anywhere.
 pub(crate) fn reaches(node: &Node, name: &Atom) -> bool
     ensures { result ≡ model.reaches (seen node.now) name.now }

@@ -16,7 +16,8 @@ use crate::acting::{acts, aims_at, fits_in};
 use crate::ending::finish;
 use dist_model::{Answer, Links};
 use erl_control::Signal;
-use erl_term::{Payload, Pid, Refusal};
+use erl_names::NodeName;
+use erl_term::{Atom, Payload, Pid, Refusal};
 use node_plan::{Node, Plan, or_refuse};
 use std::alloc::{AllocError, Global};
 
@@ -87,6 +88,30 @@ pub(crate) fn send(
     aims_at(node, &to)?;
     fits_in(&message)?;
     or_refuse(post_message(alloc, node, plan, to, message))
+}
+
+/// Plans to send a message from a process to the process that has a name at a node.
+pub(crate) fn send_name(
+    alloc: Global,
+    node: &Node,
+    plan: &mut Plan,
+    from: Pid,
+    target: &NodeName,
+    name: Atom,
+    message: Payload,
+) -> Result<(), Refusal>
+    requires told { told plan.old (seen node.now) ≡ answer.Done }
+    requires carries { CarriesOut plan.old (seen node.now) (at_work (seen node.now)) }
+    ensures { Plans (seen node.now) (call (seen node.now) (command.SendName from target.now name message)) plan.new result }
+{
+    acts(node, &from)?;
+    fits_in(&message)?;
+    let signal = Signal::RegSend {
+        from,
+        name,
+        message,
+    };
+    or_refuse(plan.post(alloc, node, target.atom(), signal))
 }
 
 /// Plans to send an exit signal from a process to another.

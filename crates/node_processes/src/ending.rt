@@ -1,13 +1,12 @@
 //! The end of a process.
-ghost use Rattle.std.specs.Prelude.{◌≡◌, IfOk, true, if◌then◌else◌, []};
+ghost use Rattle.std.specs.Prelude.{◌≡◌, true, if◌then◌else◌, ◌∷◌, []};
 ghost use Rattle.std.specs.FinMap as fm;
 ghost use Rattle.dist_model.specs.Exits.{demonitors, end_process, monitor_exits};
 ghost use Rattle.dist_model.specs.Names.{same_pid};
 ghost use Rattle.dist_model.specs.Node.{Node as TheNode, ends_of, living};
 ghost use Rattle.dist_model.specs.Telling.{taken_back, told_end};
-ghost use Rattle.dist_model.specs.Work.{Work, post_all};
+ghost use Rattle.dist_model.specs.Work.{Work, post, post_all};
 ghost use Rattle.erl_control.specs.Fits.{fits};
-ghost use Rattle.erl_control.specs.declared.signal.Signal.TheVariants as signal;
 ghost use Rattle.link_core.specs.Table.{is_active};
 ghost use Rattle.node_plan.specs.Parts.{link_in};
 ghost use Rattle.node_plan.specs.Carried.{Carries, CarriesOut, IsFree};
@@ -19,9 +18,9 @@ ghost use Rattle.node_plan.specs.declared.change.MonitorChange.TheVariants as mo
 use erl_control::Signal;
 use erl_term::{Payload, Pid, Reference};
 use link_core::End;
-use monitor_core::{Registration, Target, Watch};
+use monitor_core::{Registration, Watch};
 use node_frames::same_pid;
-use node_plan::{Node, Plan};
+use node_plan::{Node, Plan, TargetParts};
 use std::alloc::{AllocError, Global};
 
 /// Returns true if a process is linked at this end. (Reference Manual, Processes, Links.)
@@ -82,24 +81,6 @@ fn post_exits(
     Ok(())
 }
 
-// Returns MONITOR_P_EXIT of copies.
-fn monitor_exit_of(
-    alloc: Global,
-    from: &Pid,
-    to: &Pid,
-    reference: &Reference,
-    reason: &Payload,
-) -> Result<Signal, AllocError>
-    ensures { IfOk result (λ s. s ≡ signal.MonitorExit from.now to.now reference.now reason.now) }
-{
-    Ok(Signal::MonitorExit {
-        from: from.clone()?,
-        to: to.clone()?,
-        reference: reference.clone()?,
-        reason: reason.copy(alloc)?,
-    })
-}
-
 // Posts MONITOR_P_EXIT of the target to the owner of a monitor.
 fn post_end(
     plan: &mut Plan,
@@ -110,19 +91,15 @@ fn post_end(
     registration: &Registration,
 ) -> Result<(), AllocError>
     requires { fits reason.now ≡ true }
-    ensures carries { (work : Work) → CarriesOut plan.old (seen node.now) work → Carries (seen node.now) (post_all (told_end registration.now.target registration.now.owner reference.now reason.now) work) plan.new result }
+    ensures carries { (work : Work) → CarriesOut plan.old (seen node.now) work → Carries (seen node.now) (post (told_end registration.now.target registration.now.owner reference.now reason.now) work) plan.new result }
     ensures answer { plan.new.answer ≡ plan.old.answer }
     ensures change { plan.new.change ≡ plan.old.change }
     ensures watches { plan.new.watches ≡ plan.old.watches }
     ensures watchers { plan.new.watchers ≡ plan.old.watchers }
 {
-    match &registration.target {
-        Target::Pid(target) => {
-            let signal = monitor_exit_of(alloc, target, &registration.owner, reference, reason)?;
-            plan.post(alloc, node, &registration.owner.node, signal)
-        }
-        Target::Name { .. } => Ok(()),
-    }
+    let reason = reason.copy(alloc)?;
+    let target = TargetParts::of(&registration.target);
+    plan.tell_end(alloc, node, target, &registration.owner, reference, reason)
 }
 
 // Posts MONITOR_P_EXIT to the owner of a monitor, if it is bound to the process.
@@ -136,7 +113,7 @@ fn post_monitor_exit(
     registration: &Registration,
 ) -> Result<(), AllocError>
     requires { fits reason.now ≡ true }
-    ensures carries { (work : Work) → CarriesOut plan.old (seen node.now) work → Carries (seen node.now) (post_all (if same_pid registration.now.held process.now then told_end registration.now.target registration.now.owner reference.now reason.now else []) work) plan.new result }
+    ensures carries { (work : Work) → CarriesOut plan.old (seen node.now) work → Carries (seen node.now) (post_all (if same_pid registration.now.held process.now then told_end registration.now.target registration.now.owner reference.now reason.now ∷ [] else []) work) plan.new result }
     ensures answer { plan.new.answer ≡ plan.old.answer }
     ensures change { plan.new.change ≡ plan.old.change }
     ensures watches { plan.new.watches ≡ plan.old.watches }
@@ -181,7 +158,7 @@ fn post_demonitor(
     reference: &Reference,
     watch: &Watch,
 ) -> Result<(), AllocError>
-    ensures carries { (work : Work) → CarriesOut plan.old (seen node.now) work → Carries (seen node.now) (post_all (if same_pid watch.now.owner process.now then taken_back process.now watch.now.target reference.now else []) work) plan.new result }
+    ensures carries { (work : Work) → CarriesOut plan.old (seen node.now) work → Carries (seen node.now) (post_all (if same_pid watch.now.owner process.now then taken_back process.now watch.now.target reference.now ∷ [] else []) work) plan.new result }
     ensures answer { plan.new.answer ≡ plan.old.answer }
     ensures change { plan.new.change ≡ plan.old.change }
     ensures watches { plan.new.watches ≡ plan.old.watches }
@@ -190,7 +167,8 @@ fn post_demonitor(
     if !same_pid(&watch.owner, process) {
         return Ok(());
     }
-    plan.tell_demonitor(alloc, node, process, &watch.target, reference)
+    let target = TargetParts::of(&watch.target);
+    plan.tell_demonitor(alloc, node, process, target, reference)
 }
 
 // Posts DEMONITOR_P for each monitor that the process owns.

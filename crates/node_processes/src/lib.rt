@@ -3,6 +3,7 @@
 
 mod acting;
 mod commands;
+mod downs;
 mod ending;
 mod linking;
 mod monitoring;
@@ -13,6 +14,7 @@ mod taking;
 mod taking_monitors;
 mod taking_signals;
 
+pub use downs::down;
 pub use ending::{finish, is_active};
 pub use obeying::obey;
 pub use reacting::{break_link, link_exit, no_connection, no_process, other_exit};

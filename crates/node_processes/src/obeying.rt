@@ -8,9 +8,11 @@ ghost use Rattle.node_plan.specs.Planned.{Plans};
 ghost use Rattle.node_plan.specs.Plans.{told};
 ghost use Rattle.node_plan.specs.Seen.{seen};
 
-use crate::commands::{exit_self, exit_to, is_alive, links_of, receive, send, spawn, trap};
+use crate::commands::{
+    exit_self, exit_to, is_alive, links_of, receive, send, send_name, spawn, trap,
+};
 use crate::linking::{link, unlink};
-use crate::monitoring::{demonitor, monitor};
+use crate::monitoring::{demonitor, monitor, monitor_name};
 use crate::naming::{register, unregister, where_is};
 use dist_model::Command;
 use erl_term::Refusal;
@@ -31,9 +33,20 @@ pub fn obey(alloc: Global, node: &Node, plan: &mut Plan, command: Command) -> Re
     match command {
         Command::Spawn => spawn(node, plan),
         Command::Send { from, to, message } => send(alloc, node, plan, &from, to, message),
+        Command::SendName {
+            from,
+            node: target,
+            name,
+            message,
+        } => send_name(alloc, node, plan, from, &target, name, message),
         Command::Link { from, to } => link(alloc, node, plan, &from, &to),
         Command::Unlink { from, to } => unlink(alloc, node, plan, &from, &to),
         Command::Monitor { owner, target } => monitor(alloc, node, plan, &owner, &target),
+        Command::MonitorName {
+            owner,
+            node: target,
+            name,
+        } => monitor_name(alloc, node, plan, &owner, &target, &name),
         Command::Demonitor { owner, reference } => demonitor(alloc, node, plan, &owner, &reference),
         Command::Trap { process, on } => trap(node, plan, process, on),
         Command::ExitTo { from, to, reason } => exit_to(alloc, node, plan, from, to, reason),

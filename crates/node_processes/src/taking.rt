@@ -1,4 +1,4 @@
-//! The delivery of a signal to the process that it names.
+//! The delivery of a signal to the process that it names, or to the holder of a name.
 ghost use Rattle.std.specs.Prelude.{◌≡◌, true, false, IfOk};
 ghost use Rattle.dist_model.specs.Linking.{take_link, take_link_by};
 ghost use Rattle.dist_model.specs.Exits.{link_exit};
@@ -12,6 +12,7 @@ ghost use Rattle.link_core.specs.News.{Exited, Signals, noproc};
 ghost use Rattle.link_core.specs.declared.end.End.TheVariants as end;
 ghost use Rattle.erl_control.specs.declared.signal.Signal.TheVariants as signal;
 ghost use Rattle.erl_control.specs.Fits.{fits};
+ghost use Rattle.erl_term.specs.declared.term.Pid.{Pid as ThePid};
 ghost use Rattle.node_plan.specs.Carried.{Carries, CarriesOut, IsBlank};
 ghost use Rattle.node_frames.specs.Sendable.{is_sendable};
 ghost use Rattle.node_plan.specs.Plans.{told};
@@ -20,7 +21,7 @@ ghost use Rattle.node_plan.specs.Seen.{seen};
 use crate::ending::is_active;
 use crate::reacting::{link_exit, no_process, other_exit};
 use erl_control::Signal;
-use erl_term::{Payload, Pid};
+use erl_term::{Atom, Payload, Pid};
 use exit_core::down_message;
 use link_core::LinkSignal;
 use node_plan::{Node, Plan};
@@ -43,6 +44,24 @@ pub(crate) fn take_message(
         return Ok(());
     }
     plan.put(alloc, to, message.copy(alloc)?)
+}
+
+// Takes REG_SEND to the process that has a name.
+pub(crate) fn take_named(
+    alloc: Global,
+    node: &Node,
+    plan: &mut Plan,
+    name: &Atom,
+    message: &Payload,
+) -> Result<(), AllocError>
+    requires { IsBlank plan.old }
+    ensures carries { (source : Name) (from : ThePid) (work : Work) → CarriesOut plan.old (seen node.now) work → Carries (seen node.now) (take source (signal.RegSend from name.now message.now) work) plan.new result }
+    ensures told { (m : TheNode) → told plan.new m ≡ told plan.old m }
+{
+    match node.holder(name) {
+        Some(process) => take_message(alloc, node, plan, process, message),
+        None => Ok(()),
+    }
 }
 
 // Takes a signal of the New Link Protocol to a living process.

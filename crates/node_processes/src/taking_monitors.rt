@@ -1,113 +1,107 @@
-//! The delivery of a signal about a monitor to the process that it names.
-ghost use Rattle.std.specs.Prelude.{◌≡◌, true, IfOk};
+//! The delivery of a signal about a monitor.
+ghost use Rattle.std.specs.Prelude.{◌≡◌, Some, true};
+ghost use Rattle.std.specs.Option.{option_copied, option_map};
 ghost use Rattle.dist_model.specs.Monitoring as monitoring;
 ghost use Rattle.dist_model.specs.Node as model;
 ghost use Rattle.dist_model.specs.Node.{Node as TheNode};
-ghost use Rattle.dist_model.specs.Work.{Work, post, put, to_pid};
-ghost use Rattle.erl_control.specs.declared.signal.Signal.TheVariants as signal;
+ghost use Rattle.dist_model.specs.Telling.{object, told_end};
+ghost use Rattle.dist_model.specs.Work.{Work, post, put};
 ghost use Rattle.exit_core.specs.Messages.{down_term};
 ghost use Rattle.link_core.specs.News.{noproc};
-ghost use Rattle.erl_term.specs.Data.{pid};
-ghost use Rattle.monitor_core.specs.Monitors.{as_watch, is_this, itself, same_target};
+ghost use Rattle.monitor_core.specs.Monitors.{as_watch, is_this, itself, watch_of};
 ghost use Rattle.monitor_core.specs.declared.monitor.Target.TheVariants as targets;
 ghost use Rattle.node_plan.specs.Carried.{Carries, CarriesOut, IsBlank};
 ghost use Rattle.node_plan.specs.Plans.{told};
 ghost use Rattle.node_plan.specs.Seen.{seen};
-ghost use Rattle.std.specs.Option.{option_copied, option_map};
+ghost use Rattle.node_plan.specs.Targets.{target_of};
 
+use crate::downs::down;
 use crate::reacting::no_process;
-use erl_control::Signal;
-use erl_term::{Payload, Pid, Reference};
-use exit_core::down_message;
-use monitor_core::{Registration, Target, Watch};
+use erl_term::{Atom, Payload, Pid, Reference};
+use monitor_core::{Registration, Watch};
 use node_frames::same_pid;
-use node_plan::{Node, Plan, copied, registration_between};
+use node_plan::{Node, Plan, TargetParts, copied, registration_between};
 use std::alloc::{AllocError, Global};
 
-// Returns true if the target is this process.
-fn is_pid(target: &Target, process: &Pid) -> bool
-    ensures { result ≡ same_target target.now (targets.Pid process.now) }
-{
-    match target {
-        Target::Pid(pid) => same_pid(pid, process),
-        Target::Name { .. } => false,
-    }
-}
-
 // Returns true if it is the monitor of this owner and this target.
-fn is_this_watch(watch: Option<&Watch>, owner: &Pid, target: &Pid) -> bool
-    ensures { result ≡ is_this (option_map itself (option_copied watch.entry)) (monitoring.pid_watch owner.now target.now) }
+fn is_this_watch(watch: Option<&Watch>, owner: &Pid, target: TargetParts<'_>) -> bool
+    ensures { result ≡ is_this (option_map itself (option_copied watch.entry)) (watch_of owner.now (target_of target.entry)) }
 {
     match watch {
-        Some(watch) => same_pid(&watch.owner, owner) && is_pid(&watch.target, target),
+        Some(watch) => same_pid(&watch.owner, owner) && target.is_same(&watch.target),
         None => false,
     }
 }
 
 // Returns true if it is the monitor of this owner and this target.
-fn is_this_registration(registration: Option<&Registration>, owner: &Pid, target: &Pid) -> bool
-    ensures { result ≡ is_this (option_map as_watch (option_copied registration.entry)) (monitoring.pid_watch owner.now target.now) }
+fn is_this_registration(
+    registration: Option<&Registration>,
+    owner: &Pid,
+    target: TargetParts<'_>,
+) -> bool
+    ensures { result ≡ is_this (option_map as_watch (option_copied registration.entry)) (watch_of owner.now (target_of target.entry)) }
 {
     match registration {
         Some(registration) => {
-            same_pid(&registration.owner, owner) && is_pid(&registration.target, target)
+            same_pid(&registration.owner, owner) && target.is_same(&registration.target)
         }
         None => false,
     }
 }
 
-// Returns MONITOR_P_EXIT of copies of the two pids.
-fn monitor_exit_signal(
-    from: &Pid,
-    to: &Pid,
-    reference: &Reference,
-    reason: Payload,
-) -> Result<Signal, AllocError>
-    ensures { IfOk result (λ s. s ≡ signal.MonitorExit from.now to.now reference.now reason) }
-{
-    Ok(Signal::MonitorExit {
-        from: from.clone()?,
-        to: to.clone()?,
-        reference: reference.clone()?,
-        reason,
-    })
-}
-
-// Answers MONITOR_P to a process that isn't living.
+// Tells the owner of a monitor that there is no such process.
 fn tell_no_target(
     alloc: Global,
     node: &Node,
     plan: &mut Plan,
     owner: &Pid,
-    target: &Pid,
+    target: TargetParts<'_>,
     reference: &Reference,
 ) -> Result<(), AllocError>
-    ensures carries { (work : Work) → CarriesOut plan.old (seen node.now) work → Carries (seen node.now) (post (to_pid owner.now (signal.MonitorExit target.now owner.now reference.now noproc)) work) plan.new result }
+    ensures carries { (work : Work) → CarriesOut plan.old (seen node.now) work → Carries (seen node.now) (post (told_end (target_of target.entry) owner.now reference.now noproc) work) plan.new result }
     ensures told { (m : TheNode) → told plan.new m ≡ told plan.old m }
 {
     let reason = no_process(alloc)?;
-    plan.post(
-        alloc,
-        node,
-        &owner.node,
-        monitor_exit_signal(target, owner, reference, reason)?,
-    )
+    plan.tell_end(alloc, node, target, owner, reference, reason)
 }
 
-// Takes MONITOR_P to a living process.
+// Plans a monitor that is bound to the process `held`.
 fn register(
     plan: &mut Plan,
     owner: &Pid,
-    target: &Pid,
+    target: TargetParts<'_>,
+    held: &Pid,
     reference: &Reference,
 ) -> Result<(), AllocError>
     requires { IsBlank plan.old }
-    ensures carries { (m : TheNode) (work : Work) → CarriesOut plan.old m work → Carries m (monitoring.register reference.now (monitoring.registration_of owner.now target.now) work) plan.new result }
+    ensures carries { (m : TheNode) (work : Work) → CarriesOut plan.old m work → Carries m (monitoring.register reference.now (monitoring.bound owner.now (target_of target.entry) held.now) work) plan.new result }
     ensures told { (m : TheNode) → told plan.new m ≡ told plan.old m }
 {
-    let registration = registration_between(owner, target)?;
+    let registration = registration_between(owner, target, held)?;
     plan.register(copied(reference)?, registration);
     Ok(())
+}
+
+// Plans a monitor that is bound to a process, if it is living. Otherwise its owner is told that there is no
+// such process.
+fn bind_to(
+    alloc: Global,
+    node: &Node,
+    plan: &mut Plan,
+    held: &Pid,
+    owner: &Pid,
+    target: TargetParts<'_>,
+    reference: &Reference,
+) -> Result<(), AllocError>
+    requires { IsBlank plan.old }
+    ensures carries { (work : Work) → CarriesOut plan.old (seen node.now) work → Carries (seen node.now) (monitoring.bind (Some held.now) owner.now (target_of target.entry) reference.now work) plan.new result }
+    ensures told { (m : TheNode) → told plan.new m ≡ told plan.old m }
+{
+    if node.is_living(held) {
+        register(plan, owner, target, held, reference)
+    } else {
+        tell_no_target(alloc, node, plan, owner, target, reference)
+    }
 }
 
 /// Takes MONITOR_P to a process.
@@ -123,10 +117,29 @@ pub(crate) fn take_monitor(
     ensures carries { (work : Work) → CarriesOut plan.old (seen node.now) work → Carries (seen node.now) (monitoring.take_monitor owner.now target.now reference.now work) plan.new result }
     ensures told { (m : TheNode) → told plan.new m ≡ told plan.old m }
 {
-    if node.is_living(target) {
-        register(plan, owner, target, reference)
-    } else {
-        tell_no_target(alloc, node, plan, owner, target, reference)
+    let held = target;
+    let target = TargetParts::Pid(target);
+    bind_to(alloc, node, plan, held, owner, target, reference)
+}
+
+/// Takes MONITOR_P to a name of this node: binds the monitor to the process that has the name now.
+pub(crate) fn take_monitor_name(
+    alloc: Global,
+    node: &Node,
+    plan: &mut Plan,
+    owner: &Pid,
+    name: &Atom,
+    reference: &Reference,
+) -> Result<(), AllocError>
+    requires { IsBlank plan.old }
+    ensures carries { (work : Work) → CarriesOut plan.old (seen node.now) work → Carries (seen node.now) (monitoring.take_monitor_name owner.now name.now reference.now work) plan.new result }
+    ensures told { (m : TheNode) → told plan.new m ≡ told plan.old m }
+{
+    let at = node.name().atom();
+    let target = TargetParts::Name { name, node: at };
+    match node.holder(name) {
+        Some(held) => bind_to(alloc, node, plan, held, owner, target, reference),
+        None => tell_no_target(alloc, node, plan, owner, target, reference),
     }
 }
 
@@ -140,16 +153,16 @@ fn unregister(plan: &mut Plan, reference: &Reference) -> Result<(), AllocError>
     Ok(())
 }
 
-/// Takes DEMONITOR_P to a process.
+/// Takes DEMONITOR_P to a target: removes the monitor of this reference if its owner and its target are these.
 pub(crate) fn take_demonitor(
     node: &Node,
     plan: &mut Plan,
     owner: &Pid,
-    target: &Pid,
+    target: TargetParts<'_>,
     reference: &Reference,
 ) -> Result<(), AllocError>
     requires { IsBlank plan.old }
-    ensures carries { (work : Work) → CarriesOut plan.old (seen node.now) work → Carries (seen node.now) (monitoring.take_demonitor owner.now target.now reference.now work) plan.new result }
+    ensures carries { (work : Work) → CarriesOut plan.old (seen node.now) work → Carries (seen node.now) (monitoring.take_demonitor owner.now (target_of target.entry) reference.now work) plan.new result }
     ensures told { (m : TheNode) → told plan.new m ≡ told plan.old m }
 {
     if is_this_registration(node.watchers().get(reference), owner, target) {
@@ -159,49 +172,54 @@ pub(crate) fn take_demonitor(
     }
 }
 
+/// Takes DEMONITOR_P to a name of this node.
+pub(crate) fn take_demonitor_name(
+    node: &Node,
+    plan: &mut Plan,
+    owner: &Pid,
+    name: &Atom,
+    reference: &Reference,
+) -> Result<(), AllocError>
+    requires { IsBlank plan.old }
+    ensures carries { (work : Work) → CarriesOut plan.old (seen node.now) work → Carries (seen node.now) (monitoring.take_demonitor owner.now (targets.Name name.now work.node.mint.name) reference.now work) plan.new result }
+    ensures told { (m : TheNode) → told plan.new m ≡ told plan.old m }
+{
+    let at = node.name().atom();
+    let target = TargetParts::Name { name, node: at };
+    take_demonitor(node, plan, owner, target, reference)
+}
+
 // Ends a monitor of a living process, which gets DOWN.
 fn take_down(
     alloc: Global,
     plan: &mut Plan,
     owner: &Pid,
-    target: &Pid,
+    target: TargetParts<'_>,
     reference: &Reference,
     reason: &Payload,
 ) -> Result<(), AllocError>
     requires { IsBlank plan.old }
-    ensures carries { (m : TheNode) (work : Work) → model.living m owner.now ≡ true → CarriesOut plan.old m work → Carries m (put owner.now (down_term reference.now (pid target.now) reason.now) (monitoring.unwatch reference.now work)) plan.new result }
+    ensures carries { (m : TheNode) (work : Work) → model.living m owner.now ≡ true → CarriesOut plan.old m work → Carries m (put owner.now (down_term reference.now (object (target_of target.entry)) reason.now) (monitoring.unwatch reference.now work)) plan.new result }
     ensures told { (m : TheNode) → told plan.new m ≡ told plan.old m }
 {
+    let reason = reason.copy(alloc)?;
     let message = down(alloc, reference, target, reason)?;
     plan.unwatch(copied(reference)?);
     plan.put(alloc, owner, message)
 }
 
-// Returns DOWN of a process.
-fn down(
-    alloc: Global,
-    reference: &Reference,
-    target: &Pid,
-    reason: &Payload,
-) -> Result<Payload, AllocError>
-    ensures { IfOk result (λ m. m ≡ down_term reference.now (pid target.now) reason.now) }
-{
-    let reason = reason.copy(alloc)?;
-    down_message(alloc, copied(reference)?, target.clone()?, reason)
-}
-
-/// Takes MONITOR_P_EXIT of a process to the one that monitors it.
+/// Takes MONITOR_P_EXIT of a target to the process that monitors it.
 pub(crate) fn take_monitor_exit(
     alloc: Global,
     node: &Node,
     plan: &mut Plan,
     owner: &Pid,
-    target: &Pid,
+    target: TargetParts<'_>,
     reference: &Reference,
     reason: &Payload,
 ) -> Result<(), AllocError>
     requires { IsBlank plan.old }
-    ensures carries { (work : Work) → CarriesOut plan.old (seen node.now) work → Carries (seen node.now) (monitoring.take_monitor_exit target.now owner.now reference.now reason.now work) plan.new result }
+    ensures carries { (work : Work) → CarriesOut plan.old (seen node.now) work → Carries (seen node.now) (monitoring.take_monitor_exit (target_of target.entry) owner.now reference.now reason.now work) plan.new result }
     ensures told { (m : TheNode) → told plan.new m ≡ told plan.old m }
 {
     if node.is_living(owner) && is_this_watch(node.watches().get(reference), owner, target) {

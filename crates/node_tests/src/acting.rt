@@ -114,6 +114,17 @@ fn command_of(alloc: Global, event: Event) -> Result<Command, Refusal> {
         | Event::Link(from, to)
         | Event::Unlink(from, to)
         | Event::Monitor(from, to) => command_between(alloc, event, from, to)?,
+        Event::SendName(from, node, name, what) => Command::SendName {
+            from: pid(alloc, from)?,
+            node: node_name(alloc, node)?,
+            name: atom(alloc, name)?,
+            message: said(alloc, what)?,
+        },
+        Event::MonitorName(owner, node, name) => Command::MonitorName {
+            owner: pid(alloc, owner)?,
+            node: node_name(alloc, node)?,
+            name: atom(alloc, name)?,
+        },
         Event::Demonitor(owner, word) => Command::Demonitor {
             owner: pid(alloc, owner)?,
             reference: reference(alloc, word)?,

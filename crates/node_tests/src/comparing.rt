@@ -54,16 +54,40 @@ fn is_exit(elements: &[Term], process: Process, reason: &str) -> bool {
     }
 }
 
-fn is_down(elements: &[Term], word: u32, process: Process, info: &str) -> bool {
+/// Returns the object of {'DOWN',Ref,process,Object,Info}, with this reference and this info.
+fn object_of_down<'a>(elements: &'a [Term], word: u32, info: &str) -> Option<&'a Term> {
     match elements {
-        [down, reference, kind, target, why] => {
-            is_atom(down, "DOWN")
+        [down, reference, kind, object, why]
+            if is_atom(down, "DOWN")
                 && is_term_reference(reference, word)
                 && is_atom(kind, "process")
-                && is_term_pid(target, process)
-                && is_atom(why, info)
-        }
+                && is_atom(why, info) => { Some(object) }
+        _ => None,
+    }
+}
+
+fn is_down(elements: &[Term], word: u32, process: Process, info: &str) -> bool {
+    match object_of_down(elements, word, info) {
+        Some(object) => is_term_pid(object, process),
+        None => false,
+    }
+}
+
+/// Returns true if the term is {Name,Node}.
+fn is_term_name(term: &Term, name: &str, node: &str) -> bool {
+    match term {
+        Term::Tuple(elements) => match elements.as_slice() {
+            [first, second] => is_atom(first, name) && is_atom(second, node),
+            _ => false,
+        },
         _ => false,
+    }
+}
+
+fn is_down_of_name(elements: &[Term], word: u32, name: &str, node: &str, info: &str) -> bool {
+    match object_of_down(elements, word, info) {
+        Some(object) => is_term_name(object, name, node),
+        None => false,
     }
 }
 
@@ -73,6 +97,9 @@ fn says(message: &Payload, text: Text) -> bool {
         (Term::Tuple(elements), Text::Exit(process, reason)) => is_exit(elements, process, reason),
         (Term::Tuple(elements), Text::Down(word, process, info)) => {
             is_down(elements, word, process, info)
+        }
+        (Term::Tuple(elements), Text::DownOfName(word, name, node, info)) => {
+            is_down_of_name(elements, word, name, node, info)
         }
         _ => false,
     }
@@ -301,4 +328,39 @@ pub fn wrong_step(
     let wrong = first_wrong_behind(alloc, &mut node, start, steps);
     drop(node);
     wrong
+}
+
+/// The start of a scenario at a new node: no steps.
+const NEW: [&[Step]; 2] = [&[], &[]];
+
+/// Returns the index of the first scenario at a new node, of those at `places`, that comes out otherwise,
+/// and of its step that does. Returns an index without a scenario with step 0.
+pub fn wrong_among(
+    alloc: Global,
+    scenarios: &[&[Step]],
+    places: &[usize],
+) -> Result<Option<(usize, usize)>, Refusal> {
+    for place in places {
+        let Some(steps) = scenarios.get(*place) else {
+            return Ok(Some((*place, 0)));
+        };
+        if let Some(step) = wrong_step(alloc, NEW, steps)? {
+            return Ok(Some((*place, step)));
+        }
+    }
+    Ok(None)
+}
+
+/// Returns the index of the first scenario at a new node, of all, that comes out otherwise, and of its step
+/// that does.
+pub fn wrong_of_all(
+    alloc: Global,
+    scenarios: &[&[Step]],
+) -> Result<Option<(usize, usize)>, Refusal> {
+    for (place, steps) in scenarios.iter().enumerate() {
+        if let Some(step) = wrong_step(alloc, NEW, steps)? {
+            return Ok(Some((place, step)));
+        }
+    }
+    Ok(None)
 }

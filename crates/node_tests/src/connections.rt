@@ -329,6 +329,88 @@ const SCENARIOS: &[(Start, &[Step])] = &[
             Goes(Dial("b@h", true), Connection(SECOND)),
         ],
     ),
+    // A message to a name and a monitor of a name come from a peer. The end of the process that has the name
+    // tells the name. DEMONITOR_P of another name, of another owner or of the pid takes nothing back.
+    (
+        Start::Dialed,
+        &[
+            Goes(Spawn, Pid(1)),
+            Does(Arrive(OURS, Wire::HiToName), Took(Kind::RegSend), &[]),
+            Does(
+                Arrive(OURS, Wire::NameMonitored),
+                Took(Kind::Monitor),
+                &[Brought::Sent(OURS, Wire::NameExitOfNobody)],
+            ),
+            Goes(Register(P, "srv"), Done),
+            Does(
+                Arrive(OURS, Wire::HiToName),
+                Took(Kind::RegSend),
+                &[Brought::Put(P, Text::Atom("hi"))],
+            ),
+            Does(Arrive(OURS, Wire::NameMonitored), Took(Kind::Monitor), &[]),
+            Does(
+                Arrive(OURS, Wire::OtherNameDemonitored),
+                Took(Kind::Demonitor),
+                &[],
+            ),
+            Does(
+                Arrive(OURS, Wire::NameDemonitoredByOther),
+                Took(Kind::Demonitor),
+                &[],
+            ),
+            Does(
+                Arrive(OURS, Wire::PidDemonitored),
+                Took(Kind::Demonitor),
+                &[],
+            ),
+            Goes(Unregister(P), Done),
+            Does(
+                ExitSelf(P, BOOM),
+                Done,
+                &[
+                    Brought::Sent(OURS, Wire::NameExit),
+                    Brought::Ended(P, "boom"),
+                ],
+            ),
+        ],
+    ),
+    // DEMONITOR_P of the name, from the owner, takes the monitor back.
+    (
+        Start::Dialed,
+        &[
+            Goes(Spawn, Pid(1)),
+            Goes(Register(P, "srv"), Done),
+            Goes(Arrive(OURS, Wire::NameMonitored), Took(Kind::Monitor)),
+            Does(
+                Arrive(OURS, Wire::NameDemonitored),
+                Took(Kind::Demonitor),
+                &[],
+            ),
+            Does(ExitSelf(P, BOOM), Done, &[Brought::Ended(P, "boom")]),
+        ],
+    ),
+    // A name of a peer that doesn't offer this can't be monitored. A name of the own node can, and no peer
+    // tells its end.
+    (
+        Start::Dialed,
+        &[
+            Goes(Spawn, Pid(1)),
+            Refuses(MonitorName(B, "b@h", "srv"), Refusal::NoSuchProcess),
+            Refuses(MonitorName(P, "b@h", "srv"), Refusal::NotOffered),
+            Does(
+                SendName(P, "b@h", "srv", BOOM),
+                Done,
+                &[Brought::Sent(OURS, Wire::BoomToName)],
+            ),
+            Goes(MonitorName(P, "a@h", "srv"), Reference(1)),
+            Does(Arrive(OURS, Wire::NameExited), Took(Kind::MonitorExit), &[]),
+            Does(
+                Local,
+                Took(Kind::Monitor),
+                &[Brought::SentHome(Wire::NameExitHome)],
+            ),
+        ],
+    ),
 ];
 
 /// The scenarios, named once: what names the table has it written out in its proof.

@@ -13,6 +13,8 @@ mod comparing;
 #[cfg(test)]
 mod connections;
 #[cfg(test)]
+mod names;
+#[cfg(test)]
 mod processes;
 #[cfg(test)]
 mod rows;

@@ -1,5 +1,5 @@
-//! The processes of one node: their signals, links, monitors, exits and names.
-use crate::comparing::wrong_step;
+//! The processes of one node: their signals, links, monitors and exits.
+use crate::comparing::{wrong_among, wrong_of_all};
 use crate::rows::Answered::*;
 use crate::rows::Event::*;
 use crate::rows::Step::*;
@@ -7,7 +7,6 @@ use crate::rows::{Brought, Process, Said, Step, Text};
 use crate::wire::Wire;
 use dist_model::Kind;
 use erl_term::Refusal;
-use std::alloc::Global;
 use std::test::*;
 
 const P: Process = ("a@h", 1, 1);
@@ -30,9 +29,6 @@ const BOOM: Said = Said::Atom("boom");
 
 /// A term of more levels than a message may have.
 const DEEP: Said = Said::Nested(64);
-
-/// The start of a scenario at a new node: no steps.
-const NEW: [&[Step]; 2] = [&[], &[]];
 
 const SCENARIOS: &[&[Step]] = &[
     // A link to a process that has ended: it answers noproc, to a process that traps exits and to one
@@ -242,47 +238,6 @@ const SCENARIOS: &[&[Step]] = &[
         Refuses(Receive(P), Refusal::NoSuchProcess),
         Refuses(Local, Refusal::NothingThere),
     ],
-    // A name has one process, and a process one name. Refusals in their order. A process that ends loses
-    // its name in the same event.
-    &[
-        Goes(Spawn, Pid(1)),
-        Goes(Spawn, Pid(2)),
-        Does(WhereIs("srv"), Nobody, &[]),
-        Does(Register(P, "srv"), Done, &[]),
-        Does(WhereIs("srv"), Holder(P), &[]),
-        Refuses(Register(STRANGER, "undefined"), Refusal::NoSuchProcess),
-        Refuses(Register(AWAY, "srv"), Refusal::NoSuchProcess),
-        Refuses(Register(P, "undefined"), Refusal::BadName),
-        Refuses(Register(Q, "srv"), Refusal::NameTaken),
-        Refuses(Register(P, "srv"), Refusal::NameTaken),
-        Refuses(Register(P, "x"), Refusal::HasName),
-        Does(WhereIs("x"), Nobody, &[]),
-        Refuses(Unregister(STRANGER), Refusal::NoSuchProcess),
-        Refuses(Unregister(Q), Refusal::NoName),
-        Does(Register(Q, "x"), Done, &[]),
-        Does(ExitSelf(P, BOOM), Done, &[Brought::Ended(P, "boom")]),
-        Does(WhereIs("srv"), Nobody, &[]),
-        Does(WhereIs("x"), Holder(Q), &[]),
-        Refuses(Register(P, "srv"), Refusal::NoSuchProcess),
-        Refuses(Register(Q, "srv"), Refusal::HasName),
-        Does(Unregister(Q), Done, &[]),
-        Does(WhereIs("x"), Nobody, &[]),
-        Does(Register(Q, "srv"), Done, &[]),
-        Does(WhereIs("srv"), Holder(Q), &[]),
-    ],
-    // A stop drops all names.
-    &[
-        Goes(Spawn, Pid(1)),
-        Does(Register(P, ""), Done, &[]),
-        Does(WhereIs(""), Holder(P), &[]),
-        Does(Stop, Stopped, &[]),
-        Refuses(Register(P, "srv"), Refusal::NodeDown),
-        Refuses(Unregister(P), Refusal::NodeDown),
-        Refuses(WhereIs("srv"), Refusal::NodeDown),
-        Does(Start, Started(2), &[]),
-        Does(WhereIs(""), Nobody, &[]),
-        Refuses(Unregister(P), Refusal::NoSuchProcess),
-    ],
 ];
 
 /// Returns the scenarios. The proof of a function that names the table writes it out, so only this one
@@ -291,46 +246,15 @@ fn all() -> &'static [&'static [Step]] {
     SCENARIOS
 }
 
-/// Returns the index of the first scenario, of those at `places`, that comes out otherwise, and of its step
-/// that does. Returns an index without a scenario with step 0.
-fn first_wrong(
-    alloc: Global,
-    scenarios: &[&[Step]],
-    places: &[usize],
-) -> Result<Option<(usize, usize)>, Refusal> {
-    for place in places {
-        let Some(steps) = scenarios.get(*place) else {
-            return Ok(Some((*place, 0)));
-        };
-        if let Some(step) = wrong_step(alloc, NEW, steps)? {
-            return Ok(Some((*place, step)));
-        }
-    }
-    Ok(None)
-}
-
-/// Returns the index of the first scenario of all that comes out otherwise, and of its step that does.
-fn first_wrong_of_all(
-    alloc: Global,
-    scenarios: &[&[Step]],
-) -> Result<Option<(usize, usize)>, Refusal> {
-    for (place, steps) in scenarios.iter().enumerate() {
-        if let Some(step) = wrong_step(alloc, NEW, steps)? {
-            return Ok(Some((place, step)));
-        }
-    }
-    Ok(None)
-}
-
 #[test]
 fn scenarios(rt: HostRuntime) -> Result<(), Fail> {
-    assert_eq!(rt; first_wrong_of_all(rt.alloc(), all())?, None);
+    assert_eq!(rt; wrong_of_all(rt.alloc(), all())?, None);
     Ok(())
 }
 
-/// Checks links, monitors, exits and names, for `fail-allocations`.
+/// Checks links, monitors and exits, for `fail-allocations`.
 #[test]
 fn processes_without_allocation(rt: HostRuntime) -> Result<(), Fail> {
-    assert_eq!(rt; first_wrong(rt.alloc(), all(), &[0, 1, 3, 7, 11])?, None);
+    assert_eq!(rt; wrong_among(rt.alloc(), all(), &[0, 1, 3, 7])?, None);
     Ok(())
 }

@@ -24,10 +24,14 @@ pub enum Event {
     Spawn,
     /// A process sends another a message.
     Send(Process, Process, Said),
+    /// A process sends a message to a name: the node, and the name.
+    SendName(Process, &'static str, &'static str, Said),
     Link(Process, Process),
     Unlink(Process, Process),
     /// A process monitors another.
     Monitor(Process, Process),
+    /// A process monitors a name: the node, and the name.
+    MonitorName(Process, &'static str, &'static str),
     /// A process ends its monitor whose reference has this first word.
     Demonitor(Process, u32),
     Trap(Process, bool),
@@ -65,6 +69,8 @@ pub enum Text {
     Exit(Process, &'static str),
     /// {'DOWN',Ref,process,Pid,Info}, with the first word of the reference.
     Down(u32, Process, &'static str),
+    /// {'DOWN',Ref,process,{Name,Node},Info}, with the first word of the reference.
+    DownOfName(u32, &'static str, &'static str, &'static str),
 }
 
 /// The answer of a node.

@@ -65,6 +65,32 @@ pub enum Wire {
     UnlinkHome,
     /// UNLINK_ID_ACK 1 from Q to P.
     UnlinkAckHome,
+    /// MONITOR_P from P to the name srv.
+    MonitorName,
+    /// DEMONITOR_P from P to the name srv.
+    DemonitorName,
+    /// REG_SEND boom from P to the name srv.
+    BoomToName,
+    /// REG_SEND hi from B to the name srv.
+    HiToName,
+    /// MONITOR_P from B to the name srv.
+    NameMonitored,
+    /// DEMONITOR_P from B to the name srv.
+    NameDemonitored,
+    /// The same to the name x.
+    OtherNameDemonitored,
+    /// The same to the name srv, from another process of b@h.
+    NameDemonitoredByOther,
+    /// The same from B to P.
+    PidDemonitored,
+    /// MONITOR_P_EXIT boom from the name srv to B, by the reference of b@h.
+    NameExit,
+    /// The same for noproc.
+    NameExitOfNobody,
+    /// MONITOR_P_EXIT boom from the name srv to P, by the reference of a@h.
+    NameExited,
+    /// The same for noproc.
+    NameExitHome,
 }
 
 impl Wire {
@@ -124,6 +150,32 @@ impl Wire {
                 b"\0\0\0\x2Cp\x83h\x04a\x23a\x01Xw\x03a@h\0\0\0\x01\0\0\0\0\0\0\0\x01Xw\x03a@h\0\0\0\x02\0\0\0\0\0\0\0\x01",
             Wire::UnlinkAckHome =>
                 b"\0\0\0\x2Cp\x83h\x04a\x24a\x01Xw\x03a@h\0\0\0\x02\0\0\0\0\0\0\0\x01Xw\x03a@h\0\0\0\x01\0\0\0\0\0\0\0\x01",
+            Wire::MonitorName =>
+                b"\0\0\0\x35p\x83h\x04a\x13Xw\x03a@h\0\0\0\x01\0\0\0\0\0\0\0\x01w\x03srvZ\0\x03w\x03a@h\0\0\0\x01\0\0\0\x01\0\0\0\0\0\0\0\0",
+            Wire::DemonitorName =>
+                b"\0\0\0\x35p\x83h\x04a\x14Xw\x03a@h\0\0\0\x01\0\0\0\0\0\0\0\x01w\x03srvZ\0\x03w\x03a@h\0\0\0\x01\0\0\0\x01\0\0\0\0\0\0\0\0",
+            Wire::BoomToName =>
+                b"\0\0\0\x26p\x83h\x04a\x06Xw\x03a@h\0\0\0\x01\0\0\0\0\0\0\0\x01w\0w\x03srv\x83w\x04boom",
+            Wire::HiToName =>
+                b"\0\0\0\x24p\x83h\x04a\x06Xw\x03b@h\0\0\0\x01\0\0\0\0\0\0\0\x01w\0w\x03srv\x83w\x02hi",
+            Wire::NameMonitored =>
+                b"\0\0\0\x35p\x83h\x04a\x13Xw\x03b@h\0\0\0\x01\0\0\0\0\0\0\0\x01w\x03srvZ\0\x03w\x03b@h\0\0\0\x01\0\0\0\x01\0\0\0\0\0\0\0\0",
+            Wire::NameDemonitored =>
+                b"\0\0\0\x35p\x83h\x04a\x14Xw\x03b@h\0\0\0\x01\0\0\0\0\0\0\0\x01w\x03srvZ\0\x03w\x03b@h\0\0\0\x01\0\0\0\x01\0\0\0\0\0\0\0\0",
+            Wire::OtherNameDemonitored =>
+                b"\0\0\0\x33p\x83h\x04a\x14Xw\x03b@h\0\0\0\x01\0\0\0\0\0\0\0\x01w\x01xZ\0\x03w\x03b@h\0\0\0\x01\0\0\0\x01\0\0\0\0\0\0\0\0",
+            Wire::NameDemonitoredByOther =>
+                b"\0\0\0\x35p\x83h\x04a\x14Xw\x03b@h\0\0\0\x02\0\0\0\0\0\0\0\x01w\x03srvZ\0\x03w\x03b@h\0\0\0\x01\0\0\0\x01\0\0\0\0\0\0\0\0",
+            Wire::PidDemonitored =>
+                b"\0\0\0\x42p\x83h\x04a\x14Xw\x03b@h\0\0\0\x01\0\0\0\0\0\0\0\x01Xw\x03a@h\0\0\0\x01\0\0\0\0\0\0\0\x01Z\0\x03w\x03b@h\0\0\0\x01\0\0\0\x01\0\0\0\0\0\0\0\0",
+            Wire::NameExit =>
+                b"\0\0\0\x3Bp\x83h\x05a\x15w\x03srvXw\x03b@h\0\0\0\x01\0\0\0\0\0\0\0\x01Z\0\x03w\x03b@h\0\0\0\x01\0\0\0\x01\0\0\0\0\0\0\0\0w\x04boom",
+            Wire::NameExitOfNobody =>
+                b"\0\0\0\x3Dp\x83h\x05a\x15w\x03srvXw\x03b@h\0\0\0\x01\0\0\0\0\0\0\0\x01Z\0\x03w\x03b@h\0\0\0\x01\0\0\0\x01\0\0\0\0\0\0\0\0w\x06noproc",
+            Wire::NameExited =>
+                b"\0\0\0\x3Bp\x83h\x05a\x15w\x03srvXw\x03a@h\0\0\0\x01\0\0\0\0\0\0\0\x01Z\0\x03w\x03a@h\0\0\0\x01\0\0\0\x01\0\0\0\0\0\0\0\0w\x04boom",
+            Wire::NameExitHome =>
+                b"\0\0\0\x3Dp\x83h\x05a\x15w\x03srvXw\x03a@h\0\0\0\x01\0\0\0\0\0\0\0\x01Z\0\x03w\x03a@h\0\0\0\x01\0\0\0\x01\0\0\0\0\0\0\0\0w\x06noproc",
         }
     }
 }

@@ -22,11 +22,16 @@ fn put_signal(alloc: Global, out: &mut String, signal: &SignalRef) -> Result<(),
     match signal {
         SignalRef::Link { .. } => out.push_str("LINK"),
         SignalRef::Send { .. } => out.push_str("SEND"),
+        SignalRef::RegSend { .. } => out.push_str("REG_SEND"),
         SignalRef::Exit { reason, .. } => put_reason(alloc, out, "EXIT", reason),
         SignalRef::Exit2 { reason, .. } => put_reason(alloc, out, "EXIT2", reason),
-        SignalRef::Monitor { .. } => out.push_str("MONITOR_P"),
-        SignalRef::Demonitor { .. } => out.push_str("DEMONITOR_P"),
-        SignalRef::MonitorExit { reason, .. } => put_reason(alloc, out, "MONITOR_P_EXIT", reason),
+        SignalRef::Monitor { .. } | SignalRef::MonitorName { .. } => out.push_str("MONITOR_P"),
+        SignalRef::Demonitor { .. } | SignalRef::DemonitorName { .. } => {
+            out.push_str("DEMONITOR_P")
+        }
+        SignalRef::MonitorExit { reason, .. } | SignalRef::MonitorNameExit { reason, .. } => {
+            put_reason(alloc, out, "MONITOR_P_EXIT", reason)
+        }
         SignalRef::UnlinkId { id, .. } => write!(out, "UNLINK_ID {id}"),
         SignalRef::UnlinkIdAck { id, .. } => write!(out, "UNLINK_ID_ACK {id}"),
     }

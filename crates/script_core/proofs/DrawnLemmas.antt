@@ -1,4 +1,4 @@
--- What a drawing that was written, or wasn't, says of the answer.
+-- The answer of a drawing that was written, and of one that wasn't.
 use Rattle.std.proofs.Common.{◌≡◌, ℕ, List, Option, None, Some, IfSome, refl}
 use Rattle.std.specs.Io.KnownBytes.{Appends}
 use Rattle.script_core.specs.Drawn.{Draws, Ends}

@@ -1,4 +1,4 @@
--- What a line of a session comes to.
+-- The outcome of a line of a session.
 use Rattle.std.proofs.Common.{ℕ, List, Result, Ok, Err}
 use Rattle.script_core.specs.Lines.{Heeds}
 use Rattle.script_lines.specs.declared.reason.Reason.{Reason}

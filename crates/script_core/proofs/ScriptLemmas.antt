@@ -22,7 +22,7 @@ use Rattle.script_core.specs.Outcomes.{AppendsFront, Answers, Position, opening,
 abbrev pub is_break : ℕ → Bool
 is_break c = eqb c 10
 
--- ---- what is written
+-- ---- the written text
 
 pub appends_nothing : (held : Option (List ℕ)) → Appends held held []
 appends_nothing None = tt
@@ -303,7 +303,7 @@ ran_to_end p s old new some h t e =
     subst (λ (r : Run). Answers r old new outcome.Ran) (sym (end_is_break p some h ∙ t.goes []))
     (answers_after t.text (rest_of t.to []) old new new outcome.Ran t.appended (at_end t.to new e))
 
--- ---- what calls answered
+-- ---- the answers of calls
 
 pub heeds_bad : {S : Type 0} (stands : S → State → Type 0) (does : Result Step Reason) (session : S) (old new : List ℕ)
     (r : Result (Unit {0}) Stop) (stop : Stop) (reason : Reason) → r ≡ Err stop → stop ≡ Bad reason
@@ -372,7 +372,7 @@ begins from input remaining s held e at = record {
   reached = reaches_none (opening from) s held at;
 }
 
--- what was written so far is a beginning
+-- the text written so far is a beginning
 pub progress_front : (from : State) (input : List ℕ) (remaining : Option (List ℕ)) (s : Position → Type 0) (old new : Option (List ℕ))
     → Progress from input remaining s old new → AppendsFront (runs_from from input).text old new
 progress_front from input remaining s old new q =
@@ -452,7 +452,7 @@ read_none old new r n buf e z some h =
     let k = subst (λ w. ReadConsumes old new w buf) (e ∙ ap (λ (m : ℕ). Ok m) z) h in
     (k.0, k.1 refl some)
 
--- what was written is flushed
+-- the written text is flushed
 pub flushed : (p : Position) (bytes front : List ℕ) (s : Position → Type 0) (old mid new : Option (List ℕ))
     → Reaches p front s old mid → front ≡ bytes → Keeps mid new → Reaches p bytes s old new
 flushed p bytes front s old mid new r e k =

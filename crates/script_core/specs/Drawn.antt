@@ -1,4 +1,4 @@
--- What drawing a script answers and writes.
+-- The answer and the output of the drawing of a script.
 use Rattle.std.specs.Prelude.{◌≡◌, ℕ, List, [], Option}
 use Rattle.std.specs.Io.KnownBytes.{Appends}
 use Rattle.script_core.specs.Outcomes.{AppendsFront}

@@ -1,4 +1,4 @@
--- What a line comes to, at whatever runs the lines of a script.
+-- The outcome of a line, at a runner of a script's lines or a keeper of them.
 use Rattle.std.specs.Prelude.{◌≡◌, ℕ, List, [], ◌∷◌, ◌++◌, Result, Ok, Err}
 use Rattle.script_lines.specs.declared.reason.Reason.{Reason}
 use Rattle.script_session.specs.Session.{State, Step}
@@ -20,7 +20,7 @@ Heeds stands does new old_text new_text (Ok x) = Steps stands does new old_text 
 Heeds stands does new old_text new_text (Err (stop.Bad reason)) = does ≡ Err reason
 Heeds stands does new old_text new_text (Err stop.OutOfMemory) = Unit {0}
 
--- ---- what keeps its lines, and runs none
+-- ---- a keeper of lines, which runs none
 
 -- the line is kept, or there is no memory for it
 abbrev pub Keeps : {S : Type 0} → (S → List (List ℕ) → Type 0) → (lines : List (List ℕ)) (line : List ℕ) → S

@@ -50,7 +50,7 @@ pub record IsBadLine (known : Known) (first : ℕ) (lines : List (List ℕ)) (nu
 abbrev pub kept_lines : InThreads → List (List ℕ)
 kept_lines it = map (λ line. line.items) it.lines.items
 
--- what is known of the session, and these lines wait
+-- the knowledge of the session, and the lines that wait
 abbrev pub IsKept : Known → InThreads → List (List ℕ) → Type 0
 IsKept known it lines = IsKnown it.session known × (lines ≡ kept_lines it)
 

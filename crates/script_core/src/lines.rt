@@ -1,12 +1,12 @@
-//! What runs the lines of a script, or keeps them.
+//! A runner of a script's lines, or a keeper of them.
 
 use script_lines::Reason;
 use script_session::{Session, Stop};
 use std::alloc::{AllocError, Global};
 
-/// What runs the lines of a script, or keeps them. Where it stands for a state, what a line does is a
-/// function of that and of the line. Where it keeps lines, it keeps each next one behind them, and what is
-/// known of its nodes and names stays.
+/// A runner of a script's lines, or a keeper of them. For a runner that stands for a state (`stands`),
+/// the state and the line determine the effect of the line. A keeper (`keeps`) appends each line to those
+/// that it keeps. The knowledge of its nodes and names stays.
 pub(crate) trait Lines: Drop {
     ghost use Rattle.std.specs.Prelude.{List, string_bytes, ℕ};
     ghost use Rattle.script_core.specs.Lines.{Heeds, Keeps};
@@ -17,7 +17,7 @@ pub(crate) trait Lines: Drop {
 
     ghost keeps: { Known → Self → List (List ℕ) → Type 0 };
 
-    /// Runs a line, and puts what it prints behind what is printed; or keeps it.
+    /// Runs a line and appends its text to `out`, or keeps the line.
     fn line(&mut self, alloc: Global, line: &[u8], out: &mut String) -> Result<(), Stop>
         ensures runs { (state : State) → stands self.old state →
             Heeds stands (line_does state line.now) self.new (string_bytes out.old) (string_bytes out.new) result }

@@ -40,7 +40,7 @@ const VERSION: &str = "0.1";
 const COMMANDS: &str = "\
 Commands of a script, one a line:
   node NAME COOKIE [PROFILE]
-                     a node; PROFILE is 1 or 2, by default 2; node lines come before all other commands
+                     a node; PROFILE is 1, 2 or 3, by default 2; node lines come before all other commands
   pair               two nodes with a process each, p and q, connected; the first command of all
   spawn NODE name    a process, under this name from then on
   send p q TERM      a message to q
@@ -57,6 +57,10 @@ Commands of a script, one a line:
   register p ATOM    p takes a registered name at its node
   unregister p       p gives its registered name up
   whereis NODE ATOM  the process of NODE that has a registered name
+  sendname p NODE ATOM TERM
+                     a message to the process of NODE that has a registered name
+  monitorname p NODE ATOM name
+                     p monitors the process of NODE that has a registered name
   ends p q           how p and q hold their links to one another
   dial NODE PEER     NODE dials PEER
   route NODE PEER    the connection of NODE to PEER that is up

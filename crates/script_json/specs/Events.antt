@@ -12,6 +12,9 @@ command_data command.Spawn = object (member (codes "kind") (string (codes "spawn
 command_data (command.Send from to message) =
     object (member (codes "from") (process from) (member (codes "kind") (string (codes "send"))
     (member (codes "message") (payload message) (member (codes "to") (process to) no_members))))
+command_data (command.SendName from node name message) =
+    object (member (codes "from") (process from) (member (codes "kind") (string (codes "sendname"))
+    (member (codes "message") (payload message) (member (codes "name") (atom name) (member (codes "node") (string node) no_members)))))
 command_data (command.Link from to) =
     object
     (member (codes "from") (process from) (member (codes "kind") (string (codes "link")) (member (codes "to") (process to) no_members)))
@@ -21,6 +24,9 @@ command_data (command.Unlink from to) =
 command_data (command.Monitor owner target) =
     object (member (codes "kind") (string (codes "monitor")) (member (codes "owner") (process owner)
     (member (codes "target") (process target) no_members)))
+command_data (command.MonitorName owner node name) =
+    object (member (codes "kind") (string (codes "monitorname")) (member (codes "name") (atom name)
+    (member (codes "node") (string node) (member (codes "owner") (process owner) no_members))))
 command_data (command.Demonitor owner reference) =
     object (member (codes "kind") (string (codes "demonitor")) (member (codes "owner") (process owner)
     (member (codes "reference") (monitor reference) no_members)))

@@ -6,6 +6,7 @@ ghost use Rattle.serde_json.specs.View.{view};
 
 use crate::texts::{printed_atom, printed_pid, printed_reference, printed_term};
 use dist_model::Command;
+use erl_names::NodeName;
 use erl_term::{Atom, Payload, Pid, Reference};
 use serde_json::{Value, json};
 use std::alloc::{AllocError, Global};
@@ -19,6 +20,24 @@ fn send(alloc: Global, from: &Pid, to: &Pid, message: &Payload) -> Result<Value,
         printed_term(alloc, message)?,
     );
     json!(in alloc; {"from": from, "kind": "send", "message": message, "to": to})
+}
+
+fn sendname(
+    alloc: Global,
+    from: &Pid,
+    node: &NodeName,
+    name: &Atom,
+    message: &Payload,
+) -> Result<Value, AllocError>
+    ensures { IfOk result (λ v. view v ≡ command_data (command.SendName from.now node.now name.now message.now)) }
+{
+    let (from, name, message) = (
+        printed_pid(alloc, from)?,
+        printed_atom(alloc, name)?,
+        printed_term(alloc, message)?,
+    );
+    let node = node.text();
+    json!(in alloc; {"from": from, "kind": "sendname", "message": message, "name": name, "node": node})
 }
 
 fn link(alloc: Global, from: &Pid, to: &Pid) -> Result<Value, AllocError>
@@ -40,6 +59,19 @@ fn monitors(alloc: Global, owner: &Pid, target: &Pid) -> Result<Value, AllocErro
 {
     let (owner, target) = (printed_pid(alloc, owner)?, printed_pid(alloc, target)?);
     json!(in alloc; {"kind": "monitor", "owner": owner, "target": target})
+}
+
+fn monitorname(
+    alloc: Global,
+    owner: &Pid,
+    node: &NodeName,
+    name: &Atom,
+) -> Result<Value, AllocError>
+    ensures { IfOk result (λ v. view v ≡ command_data (command.MonitorName owner.now node.now name.now)) }
+{
+    let (owner, name) = (printed_pid(alloc, owner)?, printed_atom(alloc, name)?);
+    let node = node.text();
+    json!(in alloc; {"kind": "monitorname", "name": name, "node": node, "owner": owner})
 }
 
 fn demonitor(alloc: Global, owner: &Pid, reference: &Reference) -> Result<Value, AllocError>
@@ -126,9 +158,16 @@ pub(crate) fn command(alloc: Global, command: &Command) -> Result<Value, AllocEr
     match command {
         Command::Spawn => json!(in alloc; {"kind": "spawn"}),
         Command::Send { from, to, message } => send(alloc, from, to, message),
+        Command::SendName {
+            from,
+            node,
+            name,
+            message,
+        } => sendname(alloc, from, node, name, message),
         Command::Link { from, to } => link(alloc, from, to),
         Command::Unlink { from, to } => unlink(alloc, from, to),
         Command::Monitor { owner, target } => monitors(alloc, owner, target),
+        Command::MonitorName { owner, node, name } => monitorname(alloc, owner, node, name),
         Command::Demonitor { owner, reference } => demonitor(alloc, owner, reference),
         Command::Trap { process, on } => trap(alloc, process, *on),
         Command::ExitTo { from, to, reason } => exit(alloc, from, to, reason),

@@ -1,4 +1,4 @@
-//! What an event brought about, in JSON.
+//! The effects of an event, in JSON.
 ghost use Rattle.std.specs.Prelude.{◌≡◌, IfOk};
 ghost use Rattle.std.specs.Option.{option_copied};
 ghost use Rattle.dist_model.specs.declared.report.Effect.{Effect as TheEffect};
@@ -93,7 +93,7 @@ fn effect(alloc: Global, effect: &Effect<Frame>) -> Result<Value, AllocError>
     }
 }
 
-/// What an event brought about, in order.
+/// Returns the objects of an event's effects, in order.
 pub(crate) fn effects(alloc: Global, effects: &[Effect<Frame>]) -> Result<Value, AllocError>
     ensures { IfOk result (λ v. view v ≡ effects_data effects.now) }
 {

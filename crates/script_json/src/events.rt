@@ -1,4 +1,4 @@
-//! What happens at a node, in JSON.
+//! The events at a node, in JSON.
 ghost use Rattle.std.specs.Prelude.{◌≡◌, IfOk, codes};
 ghost use Rattle.script_json.specs.Events.{event_data};
 ghost use Rattle.script_json.specs.Texts.{connection};

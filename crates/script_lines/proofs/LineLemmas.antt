@@ -1,4 +1,4 @@
--- What the tests of a line come to.
+-- The outcomes of the tests of a line.
 use Rattle.std.proofs.Common.{◌≡◌, ◌≤◌, ℕ, Bool, true, false, ◌&&◌, List, length, Result}
 use Rattle.std.proofs.Common.{Err, Option, None, refl, sym, ap, subst, nat_lt, ◌∙◌}
 use Rattle.std.proofs.lemmas.Bool.{le-ltb}

@@ -4,7 +4,7 @@ use Rattle.std.specs.Str.{bytes_eq}
 use Rattle.script_lines.specs.declared.command.Verb.{Verb}
 use Rattle.script_lines.specs.declared.command.Verb.TheVariants.{Node, Pair, Spawn, Send, Link, Unlink, Monitor, Demonitor}
 use Rattle.script_lines.specs.declared.command.Verb.TheVariants.{Trap, Exit, Die, Receive, Links, Alive}
-use Rattle.script_lines.specs.declared.command.Verb.TheVariants.{Register, Unregister, WhereIs, Ends, Dial, Route}
+use Rattle.script_lines.specs.declared.command.Verb.TheVariants.{Register, Unregister, WhereIs, SendName, MonitorName, Ends, Dial, Route}
 use Rattle.script_lines.specs.declared.command.Verb.TheVariants.{Lose, Cut, Stop, Start, Deliver, Local, Sweep, Settle, Show}
 
 abbrev pub verb_named : List ℕ → Option Verb
@@ -26,6 +26,8 @@ verb_named word =
     else if bytes_eq word (codes "register") then Some Register
     else if bytes_eq word (codes "unregister") then Some Unregister
     else if bytes_eq word (codes "whereis") then Some WhereIs
+    else if bytes_eq word (codes "sendname") then Some SendName
+    else if bytes_eq word (codes "monitorname") then Some MonitorName
     else if bytes_eq word (codes "ends") then Some Ends
     else if bytes_eq word (codes "dial") then Some Dial
     else if bytes_eq word (codes "route") then Some Route

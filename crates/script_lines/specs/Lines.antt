@@ -4,12 +4,12 @@ use Rattle.std.specs.Prelude.{Option, None, Some, Result, Ok, Err, nat_lt, if◌
 use Rattle.std.specs.Str.{is_utf8}
 use Rattle.erl_term.specs.Reading.{◌>>=◌}
 use Rattle.script_lines.specs.Commands.{verb_named}
-use Rattle.script_lines.specs.Naming.{process_named, processes_named, monitor_named, demonitor_named}
+use Rattle.script_lines.specs.Naming.{process_named, processes_named, sender_named, monitor_named, owner_named, demonitor_named}
 use Rattle.script_lines.specs.Naming.{nodes_formed, node_formed, spawn_formed, formed, switch_named, profile_in, atom_read, term_read}
 use Rattle.script_lines.specs.Said.{Said, said}
 use Rattle.script_lines.specs.Said as says
 use Rattle.script_lines.specs.Words.{word_of, behind_word, no_words, one_word, two_words, two_words_or_three, three_words}
-use Rattle.script_lines.specs.Words.{word_and_text, words_and_text}
+use Rattle.script_lines.specs.Words.{atom_and_text, atom_and_word, word_and_text, words_and_text}
 use Rattle.script_lines.specs.declared.command.Verb.{Verb}
 use Rattle.script_lines.specs.declared.command.Verb.TheVariants as verb
 use Rattle.script_lines.specs.declared.line.Line.{Line}
@@ -64,6 +64,12 @@ verb_says may look verb.Register rest =
 verb_says may look verb.WhereIs rest =
     word_and_text rest >>= λ words. formed (is_node_name words.0) >>= λ _. atom_read look words.1 >>= λ _.
     Ok (says.WhereIs words.0 words.1)
+verb_says may look verb.SendName rest =
+    words_and_text rest >>= λ words. atom_and_text words.2 >>= λ it. sender_named look words.0 words.1 >>= λ p.
+    term_read look it.1 >>= λ _. atom_read look it.0 >>= λ _. Ok (says.SendName p words.1 it.0 it.1)
+verb_says may look verb.MonitorName rest =
+    words_and_text rest >>= λ words. atom_and_word words.2 >>= λ it. owner_named look words.0 words.1 it.1 >>= λ p.
+    atom_read look it.0 >>= λ _. Ok (says.MonitorName p words.1 it.0 it.1)
 verb_says may look verb.Send rest = processes_and_term_in look rest >>= λ it. Ok (says.Send it.0 it.1 it.2)
 verb_says may look verb.Exit rest = processes_and_term_in look rest >>= λ it. Ok (says.Exit it.0 it.1 it.2)
 verb_says may look verb.Die rest = process_and_term_in look rest >>= λ it. Ok (says.Die it.0 it.1)

@@ -54,6 +54,9 @@ abbrev pub process_named : Look → List ℕ → Result Pid Reason
 process_named look word = formed (is_name word) >>= λ _. process_in (look word)
 
 -- the forms of the names come before their bindings
+abbrev pub sender_named : Look → (process node : List ℕ) → Result Pid Reason
+sender_named look process node = formed (is_name process && is_node_name node) >>= λ _. process_in (look process)
+
 abbrev pub processes_named : Look → (first second : List ℕ) → Result (Pid × Pid) Reason
 processes_named look first second =
     formed (is_name first && is_name second) >>= λ _. process_in (look first) >>= λ p. process_in (look second) >>= λ q. Ok (p, q)
@@ -62,6 +65,11 @@ abbrev pub monitor_named : Look → (owner target name : List ℕ) → Result (P
 monitor_named look owner target name =
     formed (is_name owner && (is_name target && is_name name)) >>= λ _.
     process_in (look owner) >>= λ p. process_in (look target) >>= λ q. free_in (look name) >>= λ _. Ok (p, q)
+
+abbrev pub owner_named : Look → (owner node name : List ℕ) → Result Pid Reason
+owner_named look owner node name =
+    formed (is_name owner && (is_node_name node && is_name name)) >>= λ _.
+    process_in (look owner) >>= λ p. free_in (look name) >>= λ _. Ok p
 
 abbrev pub demonitor_named : Look → (owner reference : List ℕ) → Result (Pid × Reference) Reason
 demonitor_named look owner reference =
@@ -81,7 +89,10 @@ switch_named word = if bytes_eq word (codes "on") then Ok true else if bytes_eq 
 
 abbrev pub profile_named : List ℕ → Result Profile Reason
 profile_named word =
-    if bytes_eq word (codes "1") then Ok Profile.One else if bytes_eq word (codes "2") then Ok Profile.Two else Err WrongWords
+    if bytes_eq word (codes "1") then Ok Profile.One
+    else if bytes_eq word (codes "2") then Ok Profile.Two
+    else if bytes_eq word (codes "3") then Ok Profile.Three
+    else Err WrongWords
 
 -- a node line with no third word takes the second profile
 abbrev pub profile_in : Option (List ℕ) → Result Profile Reason

@@ -24,6 +24,8 @@ pub data Said : Type 0 where
   Register : (process : Pid) → (name : List ℕ) → Said
   Unregister : (process : Pid) → Said
   WhereIs : (node name : List ℕ) → Said
+  SendName : (from : Pid) → (node name term : List ℕ) → Said
+  MonitorName : (owner : Pid) → (node atom name : List ℕ) → Said
   Ends : (first second : Pid) → Said
   Dial : (node peer : List ℕ) → Said
   Route : (node peer : List ℕ) → Said
@@ -55,6 +57,8 @@ said (line.Alive process) = Alive process.now
 said (line.Register process name) = Register process.now name.now
 said (line.Unregister process) = Unregister process.now
 said (line.WhereIs node name) = WhereIs node.now name.now
+said (line.SendName from node name term) = SendName from.now node.now name.now term.now
+said (line.MonitorName owner node atom name) = MonitorName owner.now node.now atom.now name.now
 said (line.Ends first second) = Ends first.now second.now
 said (line.Dial node peer) = Dial node.now peer.now
 said (line.Route node peer) = Route node.now peer.now

@@ -5,8 +5,9 @@ use Rattle.std.specs.List.{before_first, after_first}
 use Rattle.erl_term.specs.Reading.{◌>>=◌}
 use Rattle.script_lines.specs.declared.reason.Reason.{Reason}
 use Rattle.script_lines.specs.declared.reason.Reason.TheVariants.{WrongWords}
+use Rattle.script_terms.specs.Spaces.{before_space, from_space}
 
--- what a function returned, seen by view, is what is said
+-- the result of a function, seen by view, is the result that is said
 abbrev pub Answers : {X Y : Type 0} → (X → Y) → Result X Reason → Result Y Reason → Type 0
 Answers view result said = MatchResult result (λ x. said ≡ Ok (view x)) (λ e. said ≡ Err e)
 
@@ -80,3 +81,11 @@ word_and_text text = word_at text >>= λ word. text_at word.1 >>= λ rest. Ok (w
 
 abbrev pub words_and_text : List ℕ → Result (List ℕ × List ℕ × List ℕ) Reason
 words_and_text text = word_at text >>= λ first. word_and_text first.1 >>= λ words. Ok (first.0, words.0, words.1)
+
+-- an atom, and then a text: no space between the atom's quotes parts them
+abbrev pub atom_and_text : List ℕ → Result (List ℕ × List ℕ) Reason
+atom_and_text text = text_at (from_space text) >>= λ rest. Ok (before_space text, rest)
+
+-- an atom, and then one word
+abbrev pub atom_and_word : List ℕ → Result (List ℕ × List ℕ) Reason
+atom_and_word text = one_word (from_space text) >>= λ word. Ok (before_space text, word)

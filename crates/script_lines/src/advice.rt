@@ -1,7 +1,9 @@
 //! The advice on a bad line.
 use crate::advised_words::put_word;
+use crate::naming::atom_read;
 use crate::reason::Reason;
 use crate::usages::{nearest, usage_of};
+use crate::words::{atom_and_text, first_word, words_and_text};
 use erl_names::NodeName;
 use script_terms::{Named, Names, is_name};
 use std::alloc::{AllocError, Global};
@@ -47,7 +49,7 @@ fn put_of_text(
         (Reason::BadName, Some(usage)) => put_bad_name(out, usage, text),
         (Reason::UnknownName, Some(usage)) => put_unknown_name(out, names, usage, text),
         (Reason::NameTaken, Some(usage)) => put_name_taken(out, usage, text),
-        (Reason::BadTerm, Some(usage)) => put_bad_term(out, usage, text),
+        (Reason::BadTerm, Some(usage)) => put_bad_term(out, names, usage, text),
         _ => Ok(()),
     }
 }
@@ -92,7 +94,7 @@ fn put_wrong_profile(out: &mut String, usage: &str, text: &str) -> Result<(), Al
     let words = text.split(' ').filter(|word| !word.is_empty());
     for (wanted, word) in usage.split(' ').zip(words) {
         if wanted == "[PROFILE]" && !has_form(wanted, word) {
-            out.push_str("; PROFILE is 1 or 2, not ")?;
+            out.push_str("; PROFILE is 1, 2 or 3, not ")?;
             put_word(out, word)?;
         }
     }
@@ -104,15 +106,26 @@ fn has_form(wanted: &str, word: &str) -> bool {
     match wanted {
         "NODE" | "PEER" | "NAME" => NodeName::fits(word),
         "COOKIE" => word.len() <= 255 && word.bytes().all(|byte| byte.is_ascii_graphic()),
-        "[PROFILE]" => word == "1" || word == "2",
+        "[PROFILE]" => matches!(word, "1" | "2" | "3"),
         "TERM" | "ATOM" => true,
         _ => is_name(word),
     }
 }
 
+/// Returns the last word of a line, the place of each `name` in a usage. An atom before it may have spaces.
+fn last_word(text: &str) -> &str {
+    let words = text.split(' ').filter(|word| !word.is_empty());
+    words.last().unwrap_or(text)
+}
+
 fn put_bad_name(out: &mut String, usage: &str, text: &str) -> Result<(), AllocError> {
     let words = text.split(' ').filter(|word| !word.is_empty());
     for (wanted, word) in usage.split(' ').zip(words) {
+        let word = if wanted == "name" {
+            last_word(text)
+        } else {
+            word
+        };
         if !has_form(wanted, word) {
             put_word(out, word)?;
             out.push_str(match wanted {
@@ -141,6 +154,7 @@ fn put_unknown_name(
             break;
         }
         match names.get(word) {
+            _ if wanted == "NODE" => {}
             Some(Named::Process(_)) if wanted == "name" => {
                 put_word(out, word)?;
                 return out.push_str(
@@ -205,8 +219,28 @@ fn put_name_taken(out: &mut String, usage: &str, text: &str) -> Result<(), Alloc
     }
 }
 
-fn put_bad_term(out: &mut String, usage: &str, text: &str) -> Result<(), AllocError> {
-    out.push_str(if usage.ends_with(" ATOM") {
+/// Returns true if the text between NODE and TERM is no atom. Refuses a line with too few words.
+fn has_bad_atom(names: &Names, text: &str) -> Result<bool, Reason> {
+    let (_, rest) = first_word(text);
+    let (_, _, rest) = words_and_text(rest)?;
+    let (atom, _) = atom_and_text(rest)?;
+    Ok(atom_read(names, atom).is_err())
+}
+
+/// Returns true if a bad term stands in the place of an ATOM.
+fn is_bad_atom(names: &Names, usage: &str, text: &str) -> bool {
+    usage.ends_with(" ATOM")
+        || usage.ends_with(" ATOM name")
+        || usage.ends_with(" ATOM TERM") && matches!(has_bad_atom(names, text), Ok(true))
+}
+
+fn put_bad_term(
+    out: &mut String,
+    names: &Names,
+    usage: &str,
+    text: &str,
+) -> Result<(), AllocError> {
+    out.push_str(if is_bad_atom(names, usage, text) {
         "an atom is a lower-case letter, then letters, digits, '_' and '@', or text in quotes, as 'two words', of 255 characters at most"
     } else {
         "a term is an integer, an atom, '{..}', '[..]', '<<..>>' or '$name', with no spaces outside quotes"

@@ -39,6 +39,10 @@ pub enum Verb {
     Unregister,
     /// `whereis`
     WhereIs,
+    /// `sendname`
+    SendName,
+    /// `monitorname`
+    MonitorName,
     /// `ends`
     Ends,
     /// `dial`
@@ -88,6 +92,8 @@ impl Verb {
             "register" => Some(Verb::Register),
             "unregister" => Some(Verb::Unregister),
             "whereis" => Some(Verb::WhereIs),
+            "sendname" => Some(Verb::SendName),
+            "monitorname" => Some(Verb::MonitorName),
             "ends" => Some(Verb::Ends),
             "dial" => Some(Verb::Dial),
             "route" => Some(Verb::Route),

@@ -89,6 +89,20 @@ pub enum Line<'a> {
         node: &'a str,
         name: &'a str,
     },
+    /// `sendname from NODE ATOM TERM`
+    SendName {
+        from: &'a Pid,
+        node: &'a str,
+        name: &'a str,
+        term: &'a str,
+    },
+    /// `monitorname p NODE ATOM ref`, with a free name.
+    MonitorName {
+        owner: &'a Pid,
+        node: &'a str,
+        atom: &'a str,
+        name: &'a str,
+    },
     /// `ends p q`
     Ends {
         first: &'a Pid,

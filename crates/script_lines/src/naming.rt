@@ -1,7 +1,7 @@
 //! The things that the words of a line name.
 ghost use Rattle.std.specs.Prelude.{◌≡◌, ◌&&◌};
 ghost use Rattle.std.specs.Option.{option_copied};
-ghost use Rattle.script_lines.specs.Naming.{atom_read, begins_atom, demonitor_named, formed, free_in, is_cookie, is_cookie_length, is_printable, monitor_named, node_formed, nodes_formed, process_in, process_named, processes_named, profile_in, profile_named, reference_in, spawn_formed, switch_named, term_read};
+ghost use Rattle.script_lines.specs.Naming.{atom_read, begins_atom, demonitor_named, formed, free_in, is_cookie, is_cookie_length, is_printable, monitor_named, node_formed, nodes_formed, owner_named, process_in, process_named, processes_named, profile_in, profile_named, reference_in, sender_named, spawn_formed, switch_named, term_read};
 ghost use Rattle.script_lines.specs.Words.{Answers};
 ghost use Rattle.script_terms.specs.Binding.{Look, Knows};
 ghost use Rattle.script_terms.specs.declared.names.Named.{Named};
@@ -77,6 +77,18 @@ pub(crate) fn process_named<'a>(names: &'a Names, word: &str) -> Result<&'a Pid,
     process_in(names, word)
 }
 
+/// Returns the process that `process` names. Checks that `node` has the form of a node's name.
+pub(crate) fn sender_named<'a>(
+    names: &'a Names,
+    process: &str,
+    node: &str,
+) -> Result<&'a Pid, Reason>
+    ensures { (look : Look) → Knows names.now look → Answers (λ p. p.now) result (sender_named look process.now node.now) }
+{
+    formed(is_name(process) && NodeName::fits(node))?;
+    process_in(names, process)
+}
+
 /// Returns the processes that `first` and `second` name.
 pub(crate) fn processes_named<'a>(
     names: &'a Names,
@@ -105,6 +117,22 @@ pub(crate) fn monitor_named<'a>(
     let target = process_in(names, target)?;
     free_in(names, name)?;
     Ok((owner, target))
+}
+
+/// Returns the owner of a monitor by a registered name at `node`. Checks that `node` has the form of a
+/// node's name. Refuses a `name` for the monitor that isn't free.
+pub(crate) fn owner_named<'a>(
+    names: &'a Names,
+    owner: &str,
+    node: &str,
+    name: &str,
+) -> Result<&'a Pid, Reason>
+    ensures { (look : Look) → Knows names.now look → Answers (λ p. p.now) result (owner_named look owner.now node.now name.now) }
+{
+    formed(is_name(owner) && NodeName::fits(node) && is_name(name))?;
+    let owner = process_in(names, owner)?;
+    free_in(names, name)?;
+    Ok(owner)
 }
 
 /// Returns the process that `owner` names, and the reference that `reference` names.
@@ -160,11 +188,12 @@ fn profile_named(word: &str) -> Result<Profile, Reason>
     match word {
         "1" => Ok(Profile::One),
         "2" => Ok(Profile::Two),
+        "3" => Ok(Profile::Three),
         _ => Err(Reason::WrongWords),
     }
 }
 
-/// Returns the profile that `word` names, `1` or `2`, or [`Profile::Two`] if there is no word.
+/// Returns the profile that `word` names, `1`, `2` or `3`, or [`Profile::Two`] if there is no word.
 pub(crate) fn profile_in(word: Option<&str>) -> Result<Profile, Reason>
     ensures { result ≡ profile_in (option_copied word.entry) }
 {

@@ -8,13 +8,14 @@ ghost use Rattle.script_terms.specs.Binding.{Look, Knows};
 use crate::command::Verb;
 use crate::line::Line;
 use crate::naming::{
-    atom_read, demonitor_named, formed, monitor_named, node_formed, nodes_formed, process_named,
-    processes_named, profile_in, spawn_formed, switch_named, term_read,
+    atom_read, demonitor_named, formed, monitor_named, node_formed, nodes_formed, owner_named,
+    process_named, processes_named, profile_in, sender_named, spawn_formed, switch_named,
+    term_read,
 };
 use crate::reason::Reason;
 use crate::words::{
-    first_word, no_words, one_word, three_words, two_words, two_words_or_three, word_and_text,
-    words_and_text,
+    atom_and_text, atom_and_word, first_word, no_words, one_word, three_words, two_words,
+    two_words_or_three, word_and_text, words_and_text,
 };
 use erl_names::NodeName;
 use erl_term::Pid;
@@ -174,6 +175,37 @@ fn whereis_line<'a>(names: &Names, rest: &'a str) -> Result<Line<'a>, Reason>
     Ok(Line::WhereIs { node, name })
 }
 
+fn sendname_line<'a>(names: &'a Names, rest: &'a str) -> Result<Line<'a>, Reason>
+    ensures { (may_come : MayCome) (look : Look) → Knows names.now look → Reads (verb_says may_come look verb.SendName rest.now) result }
+{
+    let (from, node, text) = words_and_text(rest)?;
+    let (name, term) = atom_and_text(text)?;
+    let from = sender_named(names, from, node)?;
+    term_read(names, term)?;
+    atom_read(names, name)?;
+    Ok(Line::SendName {
+        from,
+        node,
+        name,
+        term,
+    })
+}
+
+fn monitorname_line<'a>(names: &'a Names, rest: &'a str) -> Result<Line<'a>, Reason>
+    ensures { (may_come : MayCome) (look : Look) → Knows names.now look → Reads (verb_says may_come look verb.MonitorName rest.now) result }
+{
+    let (owner, node, text) = words_and_text(rest)?;
+    let (atom, name) = atom_and_word(text)?;
+    let owner = owner_named(names, owner, node, name)?;
+    atom_read(names, atom)?;
+    Ok(Line::MonitorName {
+        owner,
+        node,
+        atom,
+        name,
+    })
+}
+
 // Reads the words behind `verb`.
 fn read_verb<'a>(
     may_come: MayCome,
@@ -192,6 +224,8 @@ fn read_verb<'a>(
         Verb::Trap => trap_line(names, rest),
         Verb::Register => register_line(names, rest),
         Verb::WhereIs => whereis_line(names, rest),
+        Verb::SendName => sendname_line(names, rest),
+        Verb::MonitorName => monitorname_line(names, rest),
         Verb::Send => processes_and_term_in(names, rest).map(|(from, to, term)| Line::Send {
             from,
             to,

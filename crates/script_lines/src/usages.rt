@@ -4,7 +4,7 @@ use strsim::levenshtein;
 
 /// Each command with its words. Capitals stand for a text, brackets for an optional word, and other words
 /// for a name.
-const USAGES: [&str; 29] = [
+const USAGES: [&str; 31] = [
     "node NAME COOKIE [PROFILE]",
     "pair",
     "spawn NODE name",
@@ -22,6 +22,8 @@ const USAGES: [&str; 29] = [
     "register p ATOM",
     "unregister p",
     "whereis NODE ATOM",
+    "sendname from NODE ATOM TERM",
+    "monitorname p NODE ATOM name",
     "ends p q",
     "dial NODE PEER",
     "route NODE PEER",

@@ -1,9 +1,10 @@
 //! The words of a line: what stands between spaces, byte 32.
 ghost use Rattle.std.specs.Prelude.{◌≡◌};
 ghost use Rattle.std.specs.Option.{option_copied};
-ghost use Rattle.script_lines.specs.Words.{Answers, behind_word, from_word, no_words, one_word, three_words, trimmed, two_words, two_words_or_three, word_at, word_of, words_and_text, word_and_text, word_or_none, text_at};
+ghost use Rattle.script_lines.specs.Words.{Answers, atom_and_text, atom_and_word, behind_word, from_word, no_words, one_word, three_words, trimmed, two_words, two_words_or_three, word_at, word_of, words_and_text, word_and_text, word_or_none, text_at};
 
 use crate::reason::Reason;
+use script_terms::split_at_space;
 
 // Without the spaces at the front.
 fn from_word(text: &str) -> &str
@@ -109,7 +110,7 @@ pub(crate) fn three_words(text: &str) -> Result<(&str, &str, &str), Reason>
     Ok((first, second, third))
 }
 
-// What is left of a text, without the spaces around it, where anything is.
+// Returns a text without the spaces around it. Refuses a text with no other character.
 fn text_at(text: &str) -> Result<&str, Reason>
     ensures { Answers (λ word. word.now) result (text_at text.now) }
 {
@@ -136,4 +137,22 @@ pub(crate) fn words_and_text(text: &str) -> Result<(&str, &str, &str), Reason>
     let (first, rest) = word_at(text)?;
     let (second, text) = word_and_text(rest)?;
     Ok((first, second, text))
+}
+
+/// Returns an atom, and the text behind it. No space between the atom's quotes parts them.
+pub(crate) fn atom_and_text(text: &str) -> Result<(&str, &str), Reason>
+    ensures { Answers (λ words. (words.0.now, words.1.now)) result (atom_and_text text.now) }
+{
+    let (atom, rest) = split_at_space(text);
+    let text = text_at(rest)?;
+    Ok((atom, text))
+}
+
+/// Returns an atom, and the word behind it. No space between the atom's quotes parts them.
+pub(crate) fn atom_and_word(text: &str) -> Result<(&str, &str), Reason>
+    ensures { Answers (λ words. (words.0.now, words.1.now)) result (atom_and_word text.now) }
+{
+    let (atom, rest) = split_at_space(text);
+    let word = one_word(rest)?;
+    Ok((atom, word))
 }

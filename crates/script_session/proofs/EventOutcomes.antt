@@ -1,4 +1,4 @@
--- What an event in a world comes to, where memory didn't want.
+-- The outcome of an event in a world, unless memory was wanting.
 use Rattle.std.proofs.Common.{◌≡◌, Bool, true, false, cond, ℕ, List, [], ◌++◌, Ok, Err, refl, sym, ap, subst, ◌∙◌, inl, inr}
 use Rattle.std.specs.List.{flat_map}
 use Rattle.dist_model.specs.Names.{Name}
@@ -42,7 +42,7 @@ stepped new m e answer c some = go c.goes
     go (inl h) = record { stands = subst (StandsFor new) h.1 c.stands; tells = subst (Tells answer) h.0 c.tells }
     go (inr h) = absurd (some (wanting answer c.report c.tells h.0))
 
--- what was told of an event that was accepted
+-- the sent frames of an event that was accepted
 pub accepted : (told : Told Framed) (report : Report) (trace : Bool) (node : Name) → Tells (Ok told) report
     → sents trace node report ≡ cond trace (flat_map (sent_in node) told.effects.items) []
 accepted told (Refused why) trace node t = absurd t
@@ -72,7 +72,7 @@ moved it new name e answer told before out c is word trace text =
       tells = t;
     }
 
--- what is printed, said of equal things
+-- the printed text, said of equal things
 pub printed : (before out node name : List ℕ) (trace other : Bool) (effects items : List (Effect Framed))
     → out ≡ before ++ cond trace (flat_map (sent_in node) effects) [] → trace ≡ other → node ≡ name → effects ≡ items
     → out ≡ before ++ cond other (flat_map (sent_in name) items) []

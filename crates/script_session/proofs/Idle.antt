@@ -140,7 +140,7 @@ module _ (n : Node) where
       ap (λ (found : Option Node). first_where (comes (λ t. side_in found t)) (fm.entries (step w e).world.lists)) (node_stays w e d)
       ∙ none_put (sides_in w) w e d s h
 
-  -- what may happen there, by how the node is and what comes to it
+  -- the event that may happen there, by the state of the node and the connection that something comes on
   abbrev turn_by : (up local losing : Bool) → (word : ℕ) → Option TrunkId → Option Event
   turn_by up local losing word next =
       cond (not up) None

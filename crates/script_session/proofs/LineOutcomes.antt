@@ -1,4 +1,4 @@
--- What a line that is read comes to.
+-- The outcome of a line that is read.
 use Rattle.std.proofs.Common.{◌≡◌, ℕ, false, cond, List, [], Option, None, Some, Result, Ok, Err, append-nil, sym, ap, subst, ◌∙◌}
 use Rattle.script_lines.specs.Lines.{ReadsSome, line_says}
 use Rattle.script_lines.specs.Said.{Said}
@@ -13,7 +13,7 @@ use Rattle.script_session.specs.declared.made.Made.{Made}
 use Rattle.script_session.specs.declared.session.Session.{Session}
 use Rattle.script_terms.specs.Binding.{Knows}
 
--- what was read, of a line that may come as the state says
+-- the reading of a line that may come as the state says
 pub reads : (state : State) (may : MayCome) (bytes : List ℕ) (read result : Result (Option Line) Reason)
     → may ≡ may_come state → read ≡ result → ReadsSome (line_says may state.names bytes) read
     → ReadsSome (line_says (may_come state) state.names bytes) result

@@ -9,10 +9,11 @@ use Rattle.script_lines.specs.Commands.{verb_named}
 use Rattle.script_lines.specs.Lines.{found, line_says, node_in, nodes_in, placed, process_in, process_and_term_in}
 use Rattle.script_lines.specs.Lines.{processes_in, processes_and_term_in, verb_says, words_say}
 use Rattle.script_lines.specs.Naming.{atom_read, demonitor_named, formed, monitor_named, node_formed, process_named, profile_in}
-use Rattle.script_lines.specs.Naming.{spawn_formed, switch_named}
+use Rattle.script_lines.specs.Naming.{owner_named, sender_named, spawn_formed, switch_named, term_read}
 use Rattle.script_lines.specs.Said.{Said}
 use Rattle.script_lines.specs.Said as says
-use Rattle.script_lines.specs.Words.{behind_word, no_words, three_words, two_words, two_words_or_three, word_and_text, word_of}
+use Rattle.script_lines.specs.Words.{atom_and_text, atom_and_word, behind_word, no_words, three_words, two_words, two_words_or_three}
+use Rattle.script_lines.specs.Words.{word_and_text, word_of, words_and_text}
 use Rattle.script_lines.specs.declared.command.Verb.{Verb}
 use Rattle.script_lines.specs.declared.command.Verb.TheVariants as verb
 use Rattle.script_lines.specs.declared.reading.MayCome.{MayCome}
@@ -57,6 +58,12 @@ late may look verb.Register rest e =
     bind (word_and_text rest) _ (λ words. bind (process_named look words.0) _ (λ p. bind (atom_read look words.1) _ (λ _. refl)))
 late may look verb.WhereIs rest e =
     bind (word_and_text rest) _ (λ words. bind (formed (is_node_name words.0)) _ (λ _. bind (atom_read look words.1) _ (λ _. refl)))
+late may look verb.SendName rest e =
+    bind (words_and_text rest) _ (λ words. bind (atom_and_text words.2) _ (λ it. bind (sender_named look words.0 words.1) _ (λ p.
+    bind (term_read look it.1) _ (λ _. bind (atom_read look it.0) _ (λ _. refl)))))
+late may look verb.MonitorName rest e =
+    bind (words_and_text rest) _ (λ words. bind (atom_and_word words.2) _ (λ it. bind (owner_named look words.0 words.1 it.1) _ (λ p.
+    bind (atom_read look it.0) _ (λ _. refl))))
 late may look verb.Stop rest e = bind (node_in rest) _ (λ node. refl)
 late may look verb.Start rest e = bind (node_in rest) _ (λ node. refl)
 late may look verb.Local rest e = bind (node_in rest) _ (λ node. refl)

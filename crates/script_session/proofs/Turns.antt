@@ -30,7 +30,7 @@ over : (it : TheStage) → settles 0 it ≡ says (settled_text (not (is_some (tu
 unfolding settles
 over it = refl
 
--- what was printed so far, and the stage from which the turns that are left go on, where so many of the first nodes are idle
+-- the text so far, and the stage from which the turns that are left go on, with so many of the first nodes idle
 pub record Going (most : ℕ) (it : TheStage) (left idle : ℕ) (self : Stage) (before out : List ℕ) : Type 0 where
   pub now : TheStage
   pub done : List ℕ
@@ -81,7 +81,7 @@ used_up most it left idle self before out more is_settled g l s m =
     ended most it left idle self before out more (settled_text is_settled) g
     (ap (λ (n : ℕ). settles n g.now) l ∙ over g.now ∙ ap (λ (b : Bool). says (settled_text b) g.now) (sym s)) m
 
--- what follows from what a call that succeeded says
+-- a consequence of the clause of a call that succeeded
 pub on_ok : {X E : Type 0} {P Q : Type 0} (r : Result X E) → (P → Q) → OnOk r P → OnOk r Q
 on_ok (Ok x) f h = f h
 on_ok (Err e) f h = tt

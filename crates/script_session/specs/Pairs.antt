@@ -1,5 +1,5 @@
--- The pair of a script: two nodes a@h and b@h of the second profile, a process of each, and the connection that a@h dialed,
--- which is up.
+-- The pair of a script: two nodes a@h and b@h of the second profile with a process each, and a connection between them that is up.
+-- The dialer is a@h.
 use Rattle.std.specs.Prelude.{ℕ, true, List, [], ◌∷◌, codes}
 use Rattle.dist_model.specs.Names.{Name}
 use Rattle.dist_model.specs.Runs.{opening}

@@ -94,11 +94,15 @@ asks_of_one look (says.Links process) = Some (process.node, Command.LinksOf proc
 asks_of_one look (says.Alive process) = Some (process.node, Command.IsAlive process)
 asks_of_one look _ = None
 
--- a process takes a registered name or gives it up, or a caller asks for the process that has a name
+-- a process takes a registered name, gives it up, sends to one or monitors one, or a caller asks for the process that has a name
 abbrev pub asks_of_names : Look → Said → Option (Name × Command)
 asks_of_names look (says.Register process name) = Some (process.node, Command.Register process (read_atom look name))
 asks_of_names look (says.Unregister process) = Some (process.node, Command.Unregister process)
 asks_of_names look (says.WhereIs node name) = Some (node, Command.WhereIs (read_atom look name))
+asks_of_names look (says.SendName from node name term) =
+    Some (from.node, Command.SendName from node (read_atom look name) (read look term))
+asks_of_names look (says.MonitorName owner node registered name) =
+    Some (owner.node, Command.MonitorName owner node (read_atom look registered))
 asks_of_names look _ = None
 
 abbrev pub asks : Look → Said → Option (Name × Command)
@@ -147,6 +151,7 @@ plays look said it = plays_as (asks look said) said it
 abbrev pub new_name : Said → List ℕ
 new_name (says.Spawn node name) = name
 new_name (says.Monitor owner target name) = name
+new_name (says.MonitorName owner node registered name) = name
 new_name _ = []
 
 abbrev pub binds : (name : List ℕ) → Made → Look → Look

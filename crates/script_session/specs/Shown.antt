@@ -1,4 +1,4 @@
--- What there is to see of the nodes and their processes.
+-- The text that shows the nodes and their processes.
 -- (Reference Manual, Processes; Distributed Erlang, Nodes.)
 use Rattle.std.specs.Prelude.{Option, None, Some, ℕ, zero, suc, if◌then◌else◌, List, [], ◌∷◌, ◌++◌}
 use Rattle.std.specs.FinMap as fm

@@ -1,4 +1,4 @@
--- What a script plays on: its world, and what is printed of an event there.
+-- The stage of a script: its world, and the text of an event there.
 -- (ERTS User's Guide, Distribution Protocol; Reference Manual, Processes; Distributed Erlang.)
 use Rattle.std.specs.Prelude.{Some, is_some, ℕ, ◌+◌, ◌%◌, ◌^◌, Bool, true, false, not, if◌then◌else◌, List, [], ◌∷◌, ◌++◌, map}
 use Rattle.std.specs.List.{flat_map}
@@ -17,10 +17,10 @@ pub record Stage : Type 0 where
   pub world : World
   -- the next challenge
   pub word : ℕ
-  -- whether each frame that is sent is printed
+  -- true if each frame that is sent is printed
   pub trace : Bool
 
--- ---- what is printed of an event
+-- ---- the printed text of an event
 
 abbrev pub sent_in : Name → Effect Framed → List ℕ
 sent_in node (Effect.Sent (Some trunk) peer frame) = sent_text node peer frame.bytes

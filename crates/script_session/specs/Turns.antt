@@ -1,4 +1,4 @@
--- What happens of its own accord, until nothing more can.
+-- The events that happen of their own accord, until no more can.
 -- (ERTS User's Guide, Distribution Protocol; Reference Manual, Processes, Delivery of Signals. The order of turns is own.)
 use Rattle.std.specs.Prelude.{Option, None, Some, is_some, ℕ, zero, suc, true, not, if◌then◌else◌, List, [], ◌∷◌, ◌++◌}
 use Rattle.std.specs.FinMap as fm
@@ -27,7 +27,7 @@ first_turn world word (node ∷ rest) = option_or (turn_at world word node) (fir
 abbrev pub turn : Stage → Option Event
 turn stage = first_turn stage.world stage.word stage.world.nodes
 
--- what an event sends is printed before what is printed of the rest
+-- the frames of an event are printed before the text of the rest
 abbrev pub goes_on : Event → Stage → (Stage → Scene) → Scene
 goes_on event stage rest =
     let scene = rest (after stage event) in record { stage = scene.stage; text = sents_of stage event ++ scene.text; made = scene.made }

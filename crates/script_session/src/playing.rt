@@ -1,7 +1,8 @@
 //! The effect of a line's command on the stage.
-ghost use Rattle.std.specs.Prelude.{◌≡◌, false, IfOk, OnOk, string_bytes};
+ghost use Rattle.std.specs.Prelude.{◌≡◌, false, IfOk, OnOk, Some, string_bytes};
 ghost use Rattle.dist_model.specs.Dialing.{has_name};
 ghost use Rattle.dist_model.specs.World.{Dial};
+ghost use Rattle.dist_model.specs.declared.command.Command.{Command as TheCommand};
 ghost use Rattle.script_lines.specs.Said.{said};
 ghost use Rattle.script_session.specs.Session.{asks, asks_of_names, asks_of_one, asks_of_two, holds, is_taken, joins, moves, new_name, plays, read, read_atom, shows, starts};
 ghost use Rattle.script_session.specs.Stage.{Stage as TheStage, happens};
@@ -64,6 +65,7 @@ pub fn new_name(alloc: Global, line: Line) -> Result<String, AllocError>
 {
     match line {
         Line::Spawn { name, .. } | Line::Monitor { name, .. } => String::from_str(alloc, name),
+        Line::MonitorName { name, .. } => String::from_str(alloc, name),
         _ => Ok(String::new(alloc)),
     }
 }
@@ -249,6 +251,59 @@ fn asked_of_one(
     }
 }
 
+// Returns the command by which a process sends a term to a registered name at `node`, and the name of the
+// process's node.
+fn asked_to_send(
+    alloc: Global,
+    names: &Names,
+    from: &Pid,
+    node: &str,
+    name: &str,
+    text: &str,
+) -> Result<Option<(Atom, Command)>, AllocError>
+    ensures { (look : Look) → Knows names.now look →
+        IfOk result (λ asked. asked ≡ Some (from.now.node, TheCommand.SendName from.now node.now (read_atom look name.now) (read look text.now))) }
+{
+    let message = term(alloc, names, text)?;
+    let name = atom(alloc, names, name)?;
+    let target = node_name(alloc, node)?;
+    let (node, from) = at_one(from)?;
+    Ok(Some((
+        node,
+        Command::SendName {
+            from,
+            node: target,
+            name,
+            message,
+        },
+    )))
+}
+
+// Returns the command by which a process monitors a registered name at `node`, and the name of the
+// process's node.
+fn asked_to_monitor(
+    alloc: Global,
+    names: &Names,
+    owner: &Pid,
+    node: &str,
+    text: &str,
+) -> Result<Option<(Atom, Command)>, AllocError>
+    ensures { (look : Look) → Knows names.now look →
+        IfOk result (λ asked. asked ≡ Some (owner.now.node, TheCommand.MonitorName owner.now node.now (read_atom look text.now))) }
+{
+    let name = atom(alloc, names, text)?;
+    let target = node_name(alloc, node)?;
+    let (home, owner) = at_one(owner)?;
+    Ok(Some((
+        home,
+        Command::MonitorName {
+            owner,
+            node: target,
+            name,
+        },
+    )))
+}
+
 // Returns the command of a line about registered names, and the name of its node. [`None`] for any other
 // line.
 fn asked_of_names(
@@ -276,6 +331,18 @@ fn asked_of_names(
             let node = node_name(alloc, node)?.atom().clone()?;
             Ok(Some((node, Command::WhereIs { name })))
         }
+        Line::SendName {
+            from,
+            node,
+            name,
+            term: text,
+        } => asked_to_send(alloc, names, from, node, name, text),
+        Line::MonitorName {
+            owner,
+            node,
+            atom: text,
+            ..
+        } => asked_to_monitor(alloc, names, owner, node, text),
         _ => Ok(None),
     }
 }
@@ -347,6 +414,8 @@ impl Stage {
             Line::Register { .. } => Ok(Made::Nothing),
             Line::Unregister { .. } => Ok(Made::Nothing),
             Line::WhereIs { .. } => Ok(Made::Nothing),
+            Line::SendName { .. } => Ok(Made::Nothing),
+            Line::MonitorName { .. } => Ok(Made::Nothing),
         }
     }
 

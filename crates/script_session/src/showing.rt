@@ -1,4 +1,4 @@
-//! What there is to see of the nodes and their processes.
+//! The lines that show the nodes and their processes.
 ghost use Rattle.std.specs.Prelude.{◌≡◌, ◌++◌, OnOk, string_bytes};
 ghost use Rattle.std.specs.FinMap as fm;
 ghost use Rattle.std.specs.List.{flat_map};

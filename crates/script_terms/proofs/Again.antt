@@ -50,7 +50,7 @@ lower_word c h = grind (arith, nat_tests)
 digit_no_lower : (c : ℕ) → is_digit c ≡ true → is_lower c ≡ false
 digit_no_lower c h = grind (arith, nat_tests)
 
--- what a term begins with: no mark that closes, and none that opens a list where it is none
+-- the first byte of a term's text: no mark that closes, and none that opens a list unless the term is one
 record HasFront (t : Data) : Type 0 where
   pub first : ℕ
   pub more : List ℕ

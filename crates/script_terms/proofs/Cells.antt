@@ -82,7 +82,7 @@ joined_more (item s ts) t (binary a) = refl
 joined_more (item s ts) t (pid p) = refl
 joined_more (item s ts) t (reference r) = refl
 
--- what was read before, and behind it so many lists that are still open
+-- the items that were read before, and behind them so many lists that are still open
 abbrev pub wrapped : Items → ℕ → Read Data → Read Data
 wrapped ts opened read = read >>= λ u. marks_at 93 opened u.1 >>= λ rest. Ok (joined ts u.0, rest)
 

@@ -1,4 +1,4 @@
--- What holds of all that is read, since the parts have it and it passes to the whole.
+-- Facts about all terms that are read: the parts have them, and they pass to the whole.
 use Rattle.erl_term.proofs.InRange.{signed_fits}
 use Rattle.std.proofs.Common.{◌≡◌, ℕ, zero, suc, ◌+◌, ◌^◌, ◌≤◌, ◌<◌, Bool, true, false, eqb, ltb, leb, cond, List, [], ◌∷◌, length, drop}
 use Rattle.std.proofs.Common.{Ok, Err, MatchResult, Option, None, Some, IfSome, refl, subst, arith, chars, ℤ, pos, negsuc, FitsSigned, lit<}
@@ -130,7 +130,7 @@ binary_given bytes = on_after AreBytes (mark_at 60 bytes) _ (λ front. on_after 
 
 -- ---- terms
 
--- what each integer, atom and binary has, and what passes from items to tuples and lists
+-- a property that each integer, atom and binary has, and that passes from items to tuples and lists
 record IsClosed (P : Data → Type 0) : Type 0 where
   pub ints : (z : ℤ) → FitsSigned w128 z → P (int z)
   pub atoms : (a : List ℕ) → IsAtomText a → P (atom a)

@@ -1,4 +1,4 @@
--- What a check knows of a list whose items aren't kept.
+-- The facts that a check knows about a list whose items aren't kept.
 use Rattle.std.proofs.Common.{◌≡◌, ℕ, ◌+◌, ◌<◌, ◌&&◌, leb, List, length, Ok, ap, ◌∙◌}
 use Rattle.erl_term.specs.Data.{Data, Items, count}
 use Rattle.erl_term.specs.Canonical.{are_byte_items, most_levels}

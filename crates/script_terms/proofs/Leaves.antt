@@ -1,4 +1,4 @@
--- What a term is, by its first byte.
+-- The kind of a term, by its first byte.
 use Rattle.std.proofs.Common.{◌≡◌, ℕ, zero, suc, ◌-◌, ◌<◌, true, false, eqb, leb, List}
 use Rattle.std.proofs.Common.{length, Ok, Err, refl, sym, ap, ◌∙◌, arith}
 use Rattle.erl_term.specs.Data.{int, atom, binary}
@@ -77,7 +77,7 @@ unfolding term_at term_with
 term_list look zero bytes first rest some h a b = absurd (omega arith)
 term_list look (suc n) bytes first rest some h a b = let e : suc n - 1 ≡ n = omega arith in rw (h, a, b, suc_not n, e) refl
 
--- ---- what is told, as reading gives it
+-- ---- a fact that is told, as reading gives it
 
 pub got : {A : Type 0} (r : Read A) (y : A × List ℕ) (after : List ℕ) → r ≡ Ok y → y.1 ≡ after → r ≡ Ok (y.0, after)
 got {A} r y after e f = e ∙ ap (λ (z : List ℕ). Ok (y.0, z)) f

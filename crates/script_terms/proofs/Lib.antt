@@ -19,3 +19,4 @@ pub mod Quotes
 pub mod Rows
 pub mod Again
 pub mod Given
+pub mod SpaceLemmas

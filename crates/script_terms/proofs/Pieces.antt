@@ -1,4 +1,4 @@
--- What stands between quotes, as a loop reads it.
+-- The text between quotes, as a loop reads it.
 use Rattle.std.proofs.Common.{◌≡◌, ℕ, zero, suc, ◌-◌, ◌+◌, ◌≤◌, ◌<◌, Bool, true, false, eqb, cond, List, [], ◌∷◌, ◌++◌}
 use Rattle.std.proofs.Common.{length, append_assoc, Result, Ok, Err, MatchResult, refl, sym, ap, ◌∙◌, arith, ◌||◌}
 use Rattle.std.specs.List.{take_while, prefix_len}

@@ -25,7 +25,7 @@ items_push (t ∷ ts) (suc i) x e =
     rw later (ap (λ (bs : List ℕ). term_text (view t) ++ bs) (more_more ts x)
     ∙ sym (append_assoc (term_text (view t)) (more_text (items_view ts)) (codes "," ++ term_text (view x))))
 
--- what was printed, the comma and the item
+-- the text so far, the comma and the item
 pub items_more : (items : List Term) (i : ℕ) (x : Term) (before out then new : List ℕ) → i < length items
     → x ≡ get_or items i x → out ≡ before ++ items_text (items_view (take i items)) → then ≡ out ++ comma_before i
     → new ≡ then ++ term_text (view x)

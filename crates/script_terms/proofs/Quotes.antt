@@ -50,7 +50,7 @@ escape_code : (bytes : List ℕ) → escape_at (120 ∷ bytes) ≡ code_at bytes
 unfolding escape_at
 escape_code bytes = refl
 
--- ---- what stands between quotes is read as x, whatever follows the last quote
+-- ---- the text between quotes is read as x, with any bytes behind the last quote
 
 abbrev IsReadAs : List ℕ → List ℕ × List ℕ → Type 0
 IsReadAs bytes x = (most : ℕ) → length bytes ≤ most → pieces_at most bytes ≡ Ok x

@@ -1,4 +1,4 @@
--- What is printed in a row, with commas between, is read again: so are the numbers of a binary.
+-- Items printed in a row, with commas between, are read again: so are the numbers of a binary.
 use Rattle.std.proofs.Common.{◌≡◌, ℕ, zero, suc, ◌≤◌, ◌<◌, true, false, eqb, List, []}
 use Rattle.std.proofs.Common.{◌∷◌, ◌++◌, codes, length, append_assoc, length-append, Ok, refl}
 use Rattle.std.proofs.Common.{ap, ◌∙◌, arith, decimal}
@@ -13,7 +13,7 @@ use Rattle.script_terms.proofs.Numerals.{decimal_begins, byte_again}
 
 -- ---- in a row, with commas between
 
--- what is read as x, whatever mark follows
+-- a text that is read as x before any mark
 abbrev pub Again : {A : Type 0} → (List ℕ → Read A) → (A → List ℕ) → A → Type 0
 Again one text x = (rest : List ℕ) → stops is_atom_byte rest ≡ true → one (text x ++ rest) ≡ Ok (x, rest)
 

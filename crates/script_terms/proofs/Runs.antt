@@ -7,7 +7,7 @@ use Rattle.std.proofs.lemmas.Bool.{and_parts, and_from, not-true, ltb-true}
 use Rattle.std.proofs.lemmas.List.{take_at, drop_at}
 use lib.Utf8.{encode, next}
 
--- what follows isn't part of the run
+-- the bytes behind a run begin with none of the run
 abbrev pub stops : (ℕ → Bool) → List ℕ → Bool
 stops p [] = true
 stops p (c ∷ cs) = not (p c)

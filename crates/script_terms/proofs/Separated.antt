@@ -6,7 +6,7 @@ use Rattle.script_terms.specs.declared.fault.TermFault.{TermFault}
 use Rattle.script_terms.specs.declared.fault.TermFault.TheVariants.{BadTerm}
 use Rattle.script_terms.specs.Reading.{Read, next_at, separated_at}
 
--- what was read before, and what is still read
+-- the items that were read before, and those that are still read
 abbrev pub with_front : {A : Type 0} → List A → Read (List A) → Read (List A)
 with_front front read = read >>= λ x. Ok (front ++ x.0, x.1)
 

@@ -1,4 +1,4 @@
--- What is printed is one line.
+-- A printed term is one line.
 use Rattle.std.proofs.Common.{◌≡◌, ℕ, zero, suc, ◌%◌, ◌≤◌, ◌<◌, Bool, true, false, ◌&&◌, ◌||◌, eqb, ltb, leb, cond, List, []}
 use Rattle.std.proofs.Common.{◌∷◌, ◌++◌, codes, encode_utf8, refl, arith, decimal, IsUtf8, IsAscii, mod-lt, ℤ, pos, negsuc, lit<}
 use Rattle.std.specs.Prelude.{chars}

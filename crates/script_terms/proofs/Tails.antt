@@ -1,4 +1,4 @@
--- What stands behind a | without a bracket is no list.
+-- A tail behind a | without a bracket is no list.
 use Rattle.std.proofs.Common.{◌≡◌, ℕ, zero, suc, Bool, true, false, eqb, cond, List, []}
 use Rattle.std.proofs.Common.{◌∷◌, length, Ok, Err, MatchResult, refl, sym, ap, subst, ◌∙◌}
 use Rattle.std.proofs.lemmas.Bool.{false≢true}

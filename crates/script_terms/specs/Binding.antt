@@ -1,4 +1,4 @@
--- What the names of a script stand for.
+-- The processes and references that a script's names name.
 use Rattle.std.specs.Prelude.{◌≡◌, ℕ, List, Option, Some, if◌then◌else◌}
 use Rattle.std.specs.Str.{bytes_eq}
 use Rattle.indexmap.specs.IndexMap.{get_by_text, spare}
@@ -7,7 +7,7 @@ use Rattle.script_terms.specs.declared.names.Named.{Named}
 use Rattle.script_terms.specs.declared.names.Named.TheVariants.{Process, Monitor}
 use Rattle.script_terms.specs.declared.names.Names.{Names}
 
--- what each name stands for, if it is bound
+-- the process or the reference of each name that is bound
 abbrev pub Look : Type 0
 Look = List ℕ → Option Named
 

@@ -1,4 +1,4 @@
--- What is told of a term that is read but not kept, and of one that is.
+-- The facts about a term that is read but not kept, and about one that is kept.
 use Rattle.std.specs.Prelude.{◌≡◌, ℕ, Result, Ok, Err, MatchResult, nat_le}
 use Rattle.erl_term.specs.Data.{Data}
 use Rattle.erl_term.specs.Canonical.{is_byte, levels_of}
@@ -11,7 +11,7 @@ use Rattle.script_terms.specs.declared.fault.ReadError.TheVariants.{Fault, OutOf
 abbrev pub Tells : {X Y : Type 0} → (X → Y → Type 0) → Result X TermFault → Result Y TermFault → Type 0
 Tells {X} {Y} Told result read = MatchResult result (λ x. (y : Y) × (read ≡ Ok y) × Told x y) (λ e. read ≡ Err e)
 
--- whether it has at most so many levels, and whether it is an integer of a byte
+-- the term has at most so many levels, or not, and it is an integer of a byte, or not
 pub record HasShape (most : ℕ) (t : Data) (shape : Shape) : Type 0 where
   pub fits : shape.fits ≡ nat_le (levels_of t) most
   pub byte : shape.is_byte ≡ is_byte t
@@ -21,7 +21,7 @@ abbrev pub Fails : {Y : Type 0} → ReadError → Result Y TermFault → Type 0
 Fails (Fault fault) read = read ≡ Err fault
 Fails OutOfMemory read = Unit {0}
 
--- what a function returned, seen by view, is what reading gives, unless memory ran out
+-- the result of a function, seen by view, is the result of reading, unless memory ran out
 abbrev pub Gives : {X Y : Type 0} → (X → Y) → Result X ReadError → Result Y TermFault → Type 0
 Gives view result read = MatchResult result (λ x. read ≡ Ok (view x)) (λ e. Fails e read)
 

@@ -8,3 +8,4 @@ pub mod Steps
 pub mod OneLine
 pub mod Values
 pub mod Unbound
+pub mod Spaces

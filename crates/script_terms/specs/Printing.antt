@@ -38,7 +38,7 @@ pid_text p =
 unfoldable pub reference_text : Reference → List ℕ
 reference_text r = codes "#Ref<" ++ r.node ++ codes "." ++ decimal r.creation ++ numbers_text 46 r.words ++ codes ">"
 
--- what stands before an item of this index
+-- the text before an item of this index
 abbrev pub comma_before : ℕ → List ℕ
 comma_before i = if i == 0 then [] else codes ","
 

@@ -19,7 +19,7 @@ use Rattle.script_terms.specs.Binding.{Look, named_data}
 abbrev pub Read : Type 0 → Type 0
 Read A = Result (A × List ℕ) TermFault
 
--- what a function returned, seen by view, is what reading gives
+-- the result of a function, seen by view, is the result of reading
 abbrev pub Answers : {X Y : Type 0} → (X → Y) → Result X TermFault → Result Y TermFault → Type 0
 Answers view result read = MatchResult result (λ x. read ≡ Ok (view x)) (λ e. read ≡ Err e)
 
@@ -48,7 +48,7 @@ integer_at bytes = next_at bytes >>= λ c. if c.0 == 45 then digits_at 1 c.1 els
 
 -- ---- atoms
 
--- what an atom's text must be: UTF-8 of at most 255 characters
+-- the text of an atom is UTF-8 of at most 255 characters
 abbrev pub atom_of : List ℕ × List ℕ → Read (List ℕ)
 atom_of text = if is_atom_text text.0 then Ok text else Err BadTerm
 
@@ -73,7 +73,7 @@ escape_at bytes =
     else if c.0 == 120 then code_at c.1
     else Err BadTerm
 
--- what stands between quotes, up to the quote behind it: each \ begins an escape, and all else stands for
+-- the text between quotes, up to the quote behind it: each \ begins an escape, and all else stands for
 -- itself. There are at most so many pieces
 unfoldable pub pieces_at : ℕ → List ℕ → Read (List ℕ)
 pieces_at zero bytes = Err BadTerm
@@ -87,7 +87,7 @@ pieces_at (suc most) bytes =
 unfoldable pub quoted_at : List ℕ → Read (List ℕ)
 quoted_at bytes = pieces_at (length bytes) bytes >>= atom_of
 
--- ---- what stands in brackets
+-- ---- items in brackets
 
 -- one or more of what `one` reads, of which there are at most so many, with commas between them, and the mark behind them
 unfoldable pub separated_at : {A : Type 0} → (List ℕ → Read A) → ℕ → ℕ → List ℕ → Read (List A)
@@ -126,7 +126,7 @@ named_at look bytes =
 
 -- ---- terms
 
--- what is read, as a term
+-- a value that is read, as a term
 abbrev pub seen : {A : Type 0} → (A → Data) → Read A → Read Data
 seen f read = read >>= λ x. Ok (f x.0, x.1)
 

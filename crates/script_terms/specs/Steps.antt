@@ -22,7 +22,7 @@ step_at bytes =
     else if c.0 == 124 then tail_step_at c.1
     else Err BadTerm
 
--- what follows so many of a byte
+-- the bytes behind so many of one byte
 unfoldable pub marks_at : ℕ → ℕ → List ℕ → Result (List ℕ) TermFault
 marks_at mark zero bytes = Ok bytes
 marks_at mark (suc count) bytes = mark_at mark bytes >>= λ c. marks_at mark count c.1

@@ -18,11 +18,11 @@ is_digit c = nat_le 48 c && nat_le c 57
 abbrev pub is_hex_digit : ℕ → Bool
 is_hex_digit c = is_digit c || (nat_le 97 c && nat_le c 102)
 
--- what a name goes on with: a lower-case letter, a digit or _
+-- a further byte of a name: a lower-case letter, a digit or _
 abbrev pub is_name_byte : ℕ → Bool
 is_name_byte c = is_lower c || (is_digit c || (c == 95))
 
--- what a bare atom goes on with: a letter, a digit, _ or @
+-- a further byte of a bare atom: a letter, a digit, _ or @
 abbrev pub is_atom_byte : ℕ → Bool
 is_atom_byte c = is_lower c || (is_upper c || (is_digit c || ((c == 95) || (c == 64))))
 
@@ -32,12 +32,12 @@ is_of_kind HexDigits = is_hex_digit
 is_of_kind Name = is_name_byte
 is_of_kind Atom = is_atom_byte
 
--- a lower-case letter, and then what a name goes on with
+-- a lower-case letter, and then further bytes of a name
 abbrev pub is_name : List ℕ → Bool
 is_name [] = false
 is_name (c ∷ cs) = is_lower c && list_all is_name_byte cs
 
--- an atom that is written without quotes: a lower-case letter, and then what a bare atom goes on with
+-- an atom that is written without quotes: a lower-case letter, and then further bytes of a bare atom
 abbrev pub is_bare : List ℕ → Bool
 is_bare [] = false
 is_bare (c ∷ cs) = is_lower c && list_all is_atom_byte cs

@@ -1,4 +1,4 @@
-//! Whether a text is a term. Nothing here takes memory.
+//! The check that a text is a term. Nothing here takes memory.
 ghost use Rattle.std.specs.Prelude.{◌≡◌, ◌+◌, ◌&&◌, ◌||◌, false, length, nat_le, nat_lt};
 ghost use Rattle.erl_term.specs.Canonical.{levels_of, most_levels};
 ghost use Rattle.erl_term.specs.Canonical as canonical;
@@ -18,12 +18,12 @@ use crate::names::{Names, named_of};
 /// The most brackets, `{` or `[`, that open one inside another, and the most levels of a term.
 pub(crate) const BRACKETS: u32 = 64;
 
-/// What is told of a term that isn't kept.
+/// The facts about a term that isn't kept.
 #[derive(Clone, Copy, Debug)]
 pub(crate) struct Shape {
-    /// Whether it has no more levels than brackets could open where it stands.
+    /// True if it has no more levels than brackets could open in its place.
     pub(crate) fits: bool,
-    /// Whether it is an integer of 0 to 255.
+    /// True if it is an integer of 0 to 255.
     pub(crate) is_byte: bool,
 }
 
@@ -40,12 +40,12 @@ impl Shape {
     }
 }
 
-/// What is told of terms in a row that aren't kept.
+/// The facts about terms in a row that aren't kept.
 #[derive(Clone, Copy, Debug)]
 struct Row {
-    /// Whether each of them fits.
+    /// True if each of them fits.
     fit: bool,
-    /// Whether each of them is an integer of 0 to 255.
+    /// True if each of them is an integer of 0 to 255.
     are_bytes: bool,
 }
 
@@ -66,15 +66,15 @@ impl Row {
         }
     }
 
-    /// Whether the list of them fits, where there are so many before the last. A list of fewer than
-    /// 65,536 bytes is one level.
+    /// Returns true if the list of them fits, with so many before the last. A list of fewer than 65,536
+    /// bytes is one level.
     fn list_fits(self, before_last: usize) -> bool
         ensures { result ≡ (self.fit || (self.are_bytes && nat_lt before_last 65535)) }
     {
         self.fit || (self.are_bytes && before_last < 65535)
     }
 
-    /// Whether the list of them and of this tail fits.
+    /// Returns true if the list of them and of this tail fits.
     fn improper_fits(self, tail: Shape) -> bool
         ensures { result ≡ (self.fit && tail.fits) }
     {
@@ -126,7 +126,7 @@ fn check_value<'a>(
     Ok((Shape { fits, is_byte }, rest))
 }
 
-/// Whether the term without brackets at the front is an integer of a byte, and the bytes after it.
+/// Returns true if the term without brackets at the front is an integer of a byte, and the bytes after it.
 #[tactic(auto, unfolding(crate::specs::Reading::leaf_at))]
 fn check_leaf<'a>(
     names: &Names,
@@ -155,7 +155,7 @@ fn check_leaf<'a>(
     Ok((is_byte(n), rest))
 }
 
-/// Whether the integer is one of a byte.
+/// Returns true if the integer is one of a byte.
 fn is_byte(n: i128) -> bool
     ensures { result ≡ canonical.is_byte (int n) }
 {
@@ -191,7 +191,7 @@ fn check_bytes(bytes: &[u8]) -> Result<&[u8], TermFault>
     Err(TermFault::BadTerm)
 }
 
-/// Whether the tuple whose brace came before has at most one level more than brackets may open in
+/// Returns true if the tuple whose brace came before has at most one level more than brackets may open in
 /// it, and the bytes after it.
 #[cycle(check)]
 #[tactic(auto, unfolding(crate::specs::Reading::tuple_at))]

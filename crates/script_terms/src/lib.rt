@@ -22,6 +22,7 @@ mod lists;
 mod names;
 mod printing;
 mod reading;
+mod spaces;
 mod unbound;
 mod words;
 
@@ -31,5 +32,6 @@ pub use laws::{one_line, read_again, read_values};
 pub use names::{Named, Names};
 pub use printing::{put_pid, put_reference, put_term};
 pub use reading::read_term;
+pub use spaces::split_at_space;
 pub use unbound::has_unbound;
 pub use words::is_name;

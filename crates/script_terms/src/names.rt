@@ -71,7 +71,7 @@ impl Names {
     }
 }
 
-/// What the name at the front stands for, and the bytes after it.
+/// Returns the thing that the name at the front names, and the bytes after the name.
 #[tactic(auto, unfolding(crate::specs::Reading::named_at))]
 pub(crate) fn named_of<'a, 'b>(
     names: &'a Names,

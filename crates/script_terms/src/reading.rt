@@ -86,7 +86,7 @@ fn leaf_of<'a>(
     Ok((Term::Int(n), rest))
 }
 
-/// What a name stands for, as a term.
+/// Returns the term of a process or of a reference.
 fn term_named(named: &Named) -> Result<Term, AllocError>
     ensures { IfOk result (λ t. view t ≡ named_data named.now) }
 {

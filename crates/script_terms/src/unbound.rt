@@ -19,7 +19,7 @@ pub(crate) enum Place {
 
 impl Place {
     // Returns the place of the next byte.
-    fn behind(self, byte: u8) -> Place
+    pub(crate) fn behind(self, byte: u8) -> Place
         ensures { result ≡ behind self byte }
     {
         match self {

@@ -3,7 +3,7 @@ ghost use Rattle.std.specs.Prelude.{◌≡◌, drop};
 ghost use Rattle.std.specs.List.{take_while, prefix_len};
 ghost use Rattle.script_terms.specs.Words.{is_of_kind, is_name_byte, is_atom_byte, is_name, is_bare};
 
-/// What a word is made of.
+/// The bytes that make a word.
 #[derive(Clone, Copy, Debug)]
 pub(crate) enum Kind {
     /// Decimal digits.
@@ -29,7 +29,7 @@ impl Kind {
     }
 }
 
-/// What stands at the front of that kind, and the bytes after it.
+/// Returns the bytes of that kind at the front, and the bytes after them.
 pub(crate) fn word_of(kind: Kind, bytes: &[u8]) -> (&[u8], &[u8])
     ensures word { result.0.now ≡ take_while (is_of_kind kind) bytes.now }
     ensures rest { result.1.now ≡ drop (prefix_len (is_of_kind kind) bytes.now) bytes.now }
@@ -59,7 +59,7 @@ pub(crate) fn is_name_word(word: &[u8]) -> bool
     }
 }
 
-/// Whether an atom of this text is written without quotes.
+/// Returns true if an atom of this text is written without quotes.
 pub(crate) fn is_bare(text: &str) -> bool
     ensures { result ≡ is_bare text.now }
 {

@@ -3,7 +3,7 @@ use script_core::{Form, Options, Outcome, run_script};
 use std::alloc::{AllocError, Global};
 use std::test::*;
 
-/// Whether a script runs through, and what it prints ends so.
+/// Returns true if a script runs through, and its output ends with `wanted`.
 fn ends_so(alloc: Global, script: &str, wanted: &str) -> bool {
     let options = Options {
         trace: false,
@@ -95,7 +95,20 @@ const NAMES: (&str, &str) = (
     "up a@h 1\nup b@h 1\n<a@h.1.0.1>\n<a@h.2.0.1>\n<b@h.1.0.1>\ndone\ndone\nrefused 25 NameTaken\nrefused 25 NameTaken\nrefused 26 HasName\nrefused 1 BadName\n<a@h.1.0.1>\n<b@h.1.0.1>\nnone\nrefused 19 NothingThere\ndone\nrefused 27 NoName\ndone\n<a@h.2.0.1>\nstopped b@h\nrefused 2 NodeDown\nrefused 2 NodeDown\nrefused 2 NodeDown\nup b@h 2\nnone\nrefused 3 NoSuchProcess\nrefused 3 NoSuchProcess\ndone\nnone\n",
 );
 
-const ROWS: [(&str, &str); 13] = [
+/// Messages to registered names: at two nodes, to nobody, and to nodes that aren't connected or known.
+const SENT_TO_NAMES: (&str, &str) = (
+    "node a@h c\nnode b@h c\nspawn a@h p\nspawn b@h q\nregister q 'two words'\nsendname p b@h 'two words' early\nsettle\nreceive q\ndial a@h b@h\nsettle\nsendname p b@h 'two words' {hi,$p}\nsendname p b@h srv lost\nsendname p c@h srv lost\nsendname p a@h srv lost\nlocal a@h\nsendname q b@h 'two words' mine\nlocal b@h\ndeliver b@h a@h\ndeliver b@h a@h\nsettle\nreceive q\nreceive q\nreceive q\nreceive p\nstop b@h\nsendname q a@h srv hi\nstart b@h\nsendname q a@h srv hi\n",
+    "<a@h.1.0.1>\n<b@h.1.0.1>\ndone\ndone\nsettled\nempty\ntrunk a@h/1\nsettled\ndone\ndone\ndone\ndone\ntook reg_send\ndone\ntook reg_send\ntook reg_send\ntook reg_send\nsettled\nmessage mine\nmessage {hi,<a@h.1.0.1>}\nempty\nempty\nstopped b@h\nrefused 2 NodeDown\nup b@h 2\nrefused 3 NoSuchProcess\n",
+);
+
+/// Monitors by registered names: of the process that has the name when the signal comes, of nobody, and at
+/// nodes that aren't connected or don't offer them.
+const MONITORED_BY_NAME: (&str, &str) = (
+    "node a@h c 3\nnode b@h c 3\nnode c@h c\nspawn a@h p\nspawn b@h q\nspawn b@h r\nregister q 'two words'\nmonitorname p b@h 'two words' early\nreceive p\ndial a@h b@h\ndial a@h c@h\nsettle\nmonitorname p b@h 'two words' m\ndeliver b@h a@h\nunregister q\nregister r 'two words'\ndie r boom\nsettle\nreceive p\ndie q bang\ndeliver a@h b@h\nreceive p\nmonitorname p a@h srv own\nlocal a@h\nlocal a@h\nreceive p\nspawn b@h s\nregister s srv\nmonitorname p b@h srv w\ndemonitor p w\ndeliver b@h a@h\ndeliver b@h a@h\ndie s boom\nsettle\nreceive p\nmonitorname p c@h srv x\nmonitorname q a@h srv x\nstop b@h\nmonitorname s a@h srv x\nmonitorname p d@h srv x\nreceive p\ndie p done\nmonitorname p c@h srv y\n",
+    "up a@h 1\nup b@h 1\nup c@h 1\n<a@h.1.0.1>\n<b@h.1.0.1>\n<b@h.2.0.1>\ndone\n#Ref<a@h.1.1.0.0>\nmessage {'DOWN',#Ref<a@h.1.1.0.0>,process,{'two words',b@h},noconnection}\ntrunk a@h/1\ntrunk a@h/2\nsettled\n#Ref<a@h.1.2.0.0>\ntook monitor\ndone\ndone\ndone\nsettled\nempty\ndone\ntook monitor_exit\nmessage {'DOWN',#Ref<a@h.1.2.0.0>,process,{'two words',b@h},bang}\n#Ref<a@h.1.3.0.0>\ntook monitor\ntook monitor_exit\nmessage {'DOWN',#Ref<a@h.1.3.0.0>,process,{srv,a@h},noproc}\n<b@h.3.0.1>\ndone\n#Ref<a@h.1.4.0.0>\ndone\ntook monitor\ntook demonitor\ndone\nsettled\nempty\nrefused 28 NotOffered\nrefused 3 NoSuchProcess\nstopped b@h\nrefused 2 NodeDown\n#Ref<a@h.1.5.0.0>\nmessage {'DOWN',#Ref<a@h.1.5.0.0>,process,{srv,d@h},noconnection}\ndone\nrefused 3 NoSuchProcess\n",
+);
+
+const ROWS: [(&str, &str); 15] = [
     TO_THE_DEAD,
     LOST,
     CROSSED,
@@ -109,6 +122,8 @@ const ROWS: [(&str, &str); 13] = [
     TERMS,
     CUT,
     NAMES,
+    SENT_TO_NAMES,
+    MONITORED_BY_NAME,
 ];
 
 #[test]
@@ -118,7 +133,7 @@ fn rows(rt: HostRuntime) {
     }
 }
 
-/// What a script of so many messages that a process sends itself prints at its end.
+/// Returns the output of a script in which a process sends itself so many messages.
 fn patience(alloc: Global, messages: u32) -> Result<Vec<u8>, AllocError> {
     let mut script = String::from_str(alloc, "node a@h c\nspawn a@h p\n")?;
     for _ in 0..messages {
@@ -172,7 +187,7 @@ fn many_nodes(rt: HostRuntime) -> Result<(), Fail> {
 }
 
 /// Bad lines of scripts of nodes, and what is said of them.
-const ADVICE: [(&str, &str); 21] = [
+const ADVICE: [(&str, &str); 34] = [
     ("lnk p q", "'lnk'; did you mean 'link'?"),
     ("pair\r", "'pair\\r'; lines end with a line feed alone"),
     (
@@ -199,8 +214,8 @@ const ADVICE: [(&str, &str); 21] = [
         "the command is 'node NAME COOKIE [PROFILE]', stands before all other commands, and 64 times at most",
     ),
     (
-        "node a@h c 3",
-        "the command is 'node NAME COOKIE [PROFILE]', stands before all other commands, and 64 times at most; PROFILE is 1 or 2, not '3'",
+        "node a@h c 4",
+        "the command is 'node NAME COOKIE [PROFILE]', stands before all other commands, and 64 times at most; PROFILE is 1, 2 or 3, not '4'",
     ),
     (
         "pair\nends p q\r",
@@ -230,6 +245,58 @@ const ADVICE: [(&str, &str); 21] = [
     (
         "whereis a srv",
         "'a' is no name of a node: that is two words joined by '@', of letters, digits, '_' and '-', of 64 characters at most",
+    ),
+    (
+        "sendnam p a@h srv hi",
+        "'sendnam'; did you mean 'sendname'?",
+    ),
+    (
+        "pair\nsendname p a@h 'two words'",
+        "the command is 'sendname from NODE ATOM TERM'",
+    ),
+    (
+        "pair\nsendname p a 'two words' hi",
+        "'a' is no name of a node: that is two words joined by '@', of letters, digits, '_' and '-', of 64 characters at most",
+    ),
+    (
+        "node a@h c\nsendname p a@h srv hi",
+        "'p'; 'spawn NODE name' names a process, and 'monitor p q name' a monitor",
+    ),
+    (
+        "pair\nsendname p a@h srv $nope",
+        "'nope' behind a '$' is no name of a process or a monitor; 'spawn NODE name' names a process, and 'monitor p q name' a monitor",
+    ),
+    (
+        "pair\nsendname p a@h Srv hi",
+        "an atom is a lower-case letter, then letters, digits, '_' and '@', or text in quotes, as 'two words', of 255 characters at most",
+    ),
+    (
+        "pair\nsendname p a@h 'two words' Hi",
+        "a term is an integer, an atom, '{..}', '[..]', '<<..>>' or '$name', with no spaces outside quotes",
+    ),
+    (
+        "pair\nmonitorname p a@h 'two words'",
+        "the command is 'monitorname p NODE ATOM name'",
+    ),
+    (
+        "pair\nmonitorname p a 'two words' m",
+        "'a' is no name of a node: that is two words joined by '@', of letters, digits, '_' and '-', of 64 characters at most",
+    ),
+    (
+        "pair\nmonitorname p a@h 'two words' M",
+        "'M' is no name: that is a lower-case letter, then lower-case letters, digits and '_'",
+    ),
+    (
+        "node a@h c\nmonitorname p a@h 'two words' m",
+        "'p'; 'spawn NODE name' names a process, and 'monitor p q name' a monitor",
+    ),
+    (
+        "pair\nmonitorname p a@h 'two words' q",
+        "'q'; a name is given once",
+    ),
+    (
+        "pair\nmonitorname p a@h Srv m",
+        "an atom is a lower-case letter, then letters, digits, '_' and '@', or text in quotes, as 'two words', of 255 characters at most",
     ),
     (
         "\tpair\n",

@@ -16,7 +16,7 @@ fn is_line_end(byte: &u8) -> bool {
     *byte == b'\n'
 }
 
-/// Whether these lines were printed, the frames left out.
+/// Returns true if these lines were printed, the frames left out.
 fn is_printed(printed: &[u8], wanted: &str) -> bool {
     let mut wanted = wanted.lines();
     for line in printed.split(is_line_end) {
@@ -28,7 +28,7 @@ fn is_printed(printed: &[u8], wanted: &str) -> bool {
     wanted.next().is_none()
 }
 
-/// Whether a script prints these lines, the frames left out, and ends so.
+/// Returns true if a script prints these lines, the frames left out, and has this outcome.
 fn runs(alloc: Global, script: &[u8], wanted: &str, outcome: Outcome) -> bool {
     let mut reader = script;
     let mut printed = Vec::new(alloc);
@@ -166,8 +166,8 @@ const BAD_LINES: [(&[u8], Reason); 35] = [
     (b"ends p qq", Reason::UnknownName),
 ];
 
-/// Whether a script with this line behind a pair, a command and an empty line ends so at its fifth
-/// line, with more lines behind it or none.
+/// Returns true if a script with this line behind a pair, a command and an empty line has this outcome at
+/// its fifth line, with more lines behind it or none.
 fn ends_at(alloc: Global, line: &[u8], end: &[u8], outcome: Outcome) -> Result<bool, AllocError> {
     let mut script = Vec::new(alloc);
     script.extend_from_slice(b"# a\npair\nends p q\n\n")?;
@@ -220,7 +220,7 @@ fn repeated(alloc: Global, byte: u8, count: u32) -> Result<Vec<u8>, AllocError> 
     Ok(bytes)
 }
 
-/// Whether the fifth line of a script, so long, ends it so.
+/// Returns true if the fifth line of a script, so long, ends it with this outcome.
 fn long_line_ends(
     alloc: Global,
     byte: u8,
@@ -273,7 +273,7 @@ const TWICE: &str = "ends none none\nends none none\n";
 
 const ONCE: &str = "ends none none\n";
 
-/// Whether a script of two lines that print ends so, where a read fails.
+/// Returns true if a script of two lines that print has this outcome after a read that fails.
 fn halts(alloc: Global, halt: u64, kind: ErrorKind, outcome: Outcome, wanted: &str) -> bool {
     let mut reader = Halting {
         script: b"pair\nends p q\nends q p",
@@ -336,7 +336,7 @@ impl Write for Full {
     }
 }
 
-/// Whether a script of two lines that print ends so, over a writer that takes so much.
+/// Returns true if a script of two lines that print has this outcome, over a writer that takes so much.
 fn fills(alloc: Global, writes: u64, flushes: u64, outcome: Outcome, wanted: &str) -> bool {
     let mut script: &[u8] = b"pair\nends p q\nlink p p\n";
     let mut writer = Full {
@@ -441,7 +441,7 @@ fn statuses(rt: HostRuntime) {
     }
 }
 
-/// What the words ask for, or the exit status that they are refused with.
+/// Returns the options of a command line, or the exit status of its refusal.
 fn options(alloc: Global, words: &[&str]) -> Result<Result<Options, i32>, AllocError> {
     let mut given = Vec::new(alloc);
     given.push(String::from_str(alloc, "erldist")?)?;
@@ -493,7 +493,7 @@ fn command_lines(rt: HostRuntime) -> Result<(), Fail> {
 }
 
 /// Scripts, the lines of their events in JSON, and how they end.
-const TOLD: [(&str, &str, Outcome); 4] = [
+const TOLD: [(&str, &str, Outcome); 6] = [
     ("", "", Outcome::Ran),
     (
         "node a@h c\nspawn a@h p\nalive p\ndeliver a@h a@h\nshow\nstart a@h",
@@ -511,6 +511,25 @@ const TOLD: [(&str, &str, Outcome); 4] = [
 {"answer":{"kind":"done"},"effects":[],"event":{"kind":"unregister","process":"<a@h.1.0.1>"},"node":"a@h"}
 {"answer":{"holder":null,"kind":"holder"},"effects":[],"event":{"kind":"whereis","name":"x"},"node":"a@h"}
 "#,
+        Outcome::Ran,
+    ),
+    (
+        "node a@h c\nspawn a@h p\nregister p srv\nsendname p a@h srv hi\nlocal a@h\n",
+        r#"{"answer":{"kind":"pid","process":"<a@h.1.0.1>"},"effects":[],"event":{"kind":"spawn"},"node":"a@h"}
+{"answer":{"kind":"done"},"effects":[],"event":{"kind":"register","name":"srv","process":"<a@h.1.0.1>"},"node":"a@h"}
+{"answer":{"kind":"done"},"effects":[{"hex":"00000024708368046106587703614068000000010000000000000001770077037372768377026869","item":"reg_send","kind":"sent","peer":"a@h","trunk":null}],"event":{"from":"<a@h.1.0.1>","kind":"sendname","message":"hi","name":"srv","node":"a@h"},"node":"a@h"}
+{"answer":{"item":"reg_send","kind":"took"},"effects":[{"kind":"put","message":"hi","to":"<a@h.1.0.1>"}],"event":{"kind":"local"},"node":"a@h"}
+"#,
+        Outcome::Ran,
+    ),
+    (
+        "node a@h c\nspawn a@h p\nspawn a@h q\nregister q srv\nmonitorname p a@h srv m\nlocal a@h\n",
+        r##"{"answer":{"kind":"pid","process":"<a@h.1.0.1>"},"effects":[],"event":{"kind":"spawn"},"node":"a@h"}
+{"answer":{"kind":"pid","process":"<a@h.2.0.1>"},"effects":[],"event":{"kind":"spawn"},"node":"a@h"}
+{"answer":{"kind":"done"},"effects":[],"event":{"kind":"register","name":"srv","process":"<a@h.2.0.1>"},"node":"a@h"}
+{"answer":{"kind":"reference","reference":"#Ref<a@h.1.1.0.0>"},"effects":[{"hex":"0000003570836804611358770361406800000001000000000000000177037372765A0003770361406800000001000000010000000000000000","item":"monitor","kind":"sent","peer":"a@h","trunk":null}],"event":{"kind":"monitorname","name":"srv","node":"a@h","owner":"<a@h.1.0.1>"},"node":"a@h"}
+{"answer":{"item":"monitor","kind":"took"},"effects":[],"event":{"kind":"local"},"node":"a@h"}
+"##,
         Outcome::Ran,
     ),
     (
@@ -541,7 +560,7 @@ fn told(rt: HostRuntime) {
 }
 
 /// Scripts, what stands in their drawings, and how they end.
-const DRAWN: [(&str, &[&str], Outcome); 7] = [
+const DRAWN: [(&str, &[&str], Outcome); 9] = [
     ("", &["A run of Erlang nodes"], Outcome::Ran),
     (
         "node a@h c\nspawn a@h p\nalive p\nstop a@h\nspawn a@h q\nshow\n",
@@ -586,6 +605,22 @@ const DRAWN: [(&str, &[&str], Outcome); 7] = [
         Outcome::Ran,
     ),
     (
+        "pair\nregister q srv\nsendname p b@h srv hi\ndeliver b@h a@h\n",
+        &[">sendname p b@h srv hi<", ">REG_SEND", ">q gets hi<"],
+        Outcome::Ran,
+    ),
+    (
+        "node a@h c 3\nnode b@h c 3\nspawn a@h p\nspawn b@h q\nregister q srv\ndial a@h b@h\nsettle\nmonitorname p b@h srv m\nmonitorname p b@h srv n\ndemonitor p n\nsettle\ndie q boom\nsettle\n",
+        &[
+            ">monitorname p b@h srv m<",
+            ">MONITOR_P<",
+            ">DEMONITOR_P<",
+            ">MONITOR_P_EXIT boom<",
+            ">p gets DOWN of {srv,b@h}: boom<",
+        ],
+        Outcome::Ran,
+    ),
+    (
         "node 'a<&@h c\n",
         &["A run of Erlang nodes"],
         Outcome::BadLine(1, Reason::BadName),
@@ -597,7 +632,7 @@ const DRAWN: [(&str, &[&str], Outcome); 7] = [
     ),
 ];
 
-/// Whether a drawing is whole, and all of this stands in it.
+/// Returns true if a drawing is whole, and has each of these texts.
 fn is_drawn(drawing: &[u8], wanted: &[&str]) -> bool {
     let Ok(drawing) = std::str::from_utf8(drawing) else {
         return false;

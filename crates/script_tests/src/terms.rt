@@ -4,7 +4,7 @@ use script_terms::{Named, Names, ReadError, TermFault, put_term, read_term};
 use std::alloc::Global;
 use std::test::*;
 
-/// What reading a text, and printing what was read, comes to.
+/// The outcome of reading a text and printing the term.
 #[derive(Clone, Copy, Debug)]
 enum Printed {
     /// This text.
@@ -112,7 +112,7 @@ pub fn names(alloc: Global) -> Result<Names, Fail> {
     Ok(names)
 }
 
-/// What reading a text comes to: whether it is what the row says.
+/// Returns true if reading a text has the outcome of the row.
 fn comes_to(alloc: Global, names: &Names, text: &str, wanted: Printed) -> Result<bool, Fail> {
     let mut printed = String::new(alloc);
     match read_term(alloc, names, text) {

@@ -1,4 +1,4 @@
--- What is printed of a node and its processes.
+-- The printed texts of a node and its processes.
 use Rattle.std.specs.Prelude.{ℕ, Bool, true, false, List, [], ◌++◌, length, codes, Option, None, Some}
 use Rattle.std.specs.Fmt.{decimal}
 use Rattle.std.specs.List.{flat_map, slice_get}

@@ -20,6 +20,7 @@ pub fn kind_name(kind: Kind) -> &'static str
         Kind::Tick => "tick",
         Kind::Link => "link",
         Kind::Send => "send",
+        Kind::RegSend => "reg_send",
         Kind::Exit => "exit",
         Kind::Exit2 => "exit2",
         Kind::Monitor => "monitor",

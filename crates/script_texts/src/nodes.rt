@@ -1,4 +1,4 @@
-//! What there is to see of a node.
+//! The texts that show a node.
 ghost use Rattle.std.specs.Prelude.{◌≡◌, ◌++◌, OnOk, string_bytes};
 ghost use Rattle.std.specs.List.{flat_map};
 ghost use Rattle.dist_model.specs.Node.{Ended, Living};

@@ -1,4 +1,4 @@
-//! What an event sends, in hex.
+//! The items that an event sends, in hex.
 ghost use Rattle.std.specs.Prelude.{◌≡◌, ◌++◌, OnOk, string_bytes};
 ghost use Rattle.script_texts.specs.Texts.{sent_text};
 

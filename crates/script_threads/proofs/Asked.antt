@@ -1,4 +1,4 @@
--- What was asked for by a seat, and printed.
+-- The requests of a seat, and their printed answers.
 use Rattle.std.proofs.Common.{◌≡◌, ◌-◌, ◌+◌, ℕ, List, [], ◌∷◌, ◌++◌, Some, length, slice_get, inl, ap, ◌∙◌, arith}
 use Rattle.std.proofs.lemmas.List.{length-append}
 use Rattle.std.specs.Prelude.{IfOk, OnOk, Ok, Err, Result}

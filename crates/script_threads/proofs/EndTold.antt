@@ -1,4 +1,4 @@
--- What the end of a script tells.
+-- The text at the end of a script.
 use Rattle.std.proofs.Common.{◌≡◌, ◌≢◌, ◌<◌, ◌==◌, ℕ, eqb, Bool, true, false, List, length, refl, sym, ap, subst, ◌∙◌, arith}
 use Rattle.std.proofs.lemmas.Bool.Decides.{nat_tests}
 use Rattle.cluster_run.specs.Finishing.{IsFinished}

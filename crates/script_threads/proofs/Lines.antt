@@ -1,4 +1,4 @@
--- What a line that is read comes to.
+-- The outcome of a line that is read.
 use Rattle.std.proofs.Common.{◌≡◌, ◌&&◌, ℕ, eqb, Bool, true, false, cond, not, List, []}
 use Rattle.std.proofs.Common.{nat_lt, Option, Some, Result, Ok, Err, sym, ap, subst, ◌∙◌}
 use Rattle.std.proofs.lemmas.List.{length-map}
@@ -43,7 +43,7 @@ there may known line it e = go (is_missing (verb_in line)) e
     go true e = absurd cc
     go false e = e
 
--- what was read, of a line that may come as it stands
+-- the reading of a line that may come in its place
 pub reads : (known : Known) (may : MayCome) (line : List ℕ) (read result : Result (Option Line) Reason) → may ≡ may_come known
     → read ≡ result → ReadsSome (says may known.look line) read
     → ReadsSome (says (may_come known) known.look line) result

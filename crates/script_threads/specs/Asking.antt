@@ -1,4 +1,4 @@
--- What a line asks of a node, and what is printed of it: the answer that the receipt has.
+-- The request of a line to a node, and its printed text: the answer that the receipt has.
 use Rattle.std.specs.Prelude.{◌≡◌, ◌⊎◌, ℕ, List, ◌++◌, Result, Ok, Err}
 use Rattle.dist_model.specs.Names.{Name}
 use Rattle.dist_model.specs.declared.report.Answer.{Answer}
@@ -15,13 +15,13 @@ use Rattle.script_session.specs.declared.made.Made.TheVariants.{Nothing, One}
 use Rattle.script_terms.specs.declared.names.Named.TheVariants.{Monitor, Process}
 use Rattle.script_texts.specs.Texts.{answer_text, refused_text}
 
--- ---- what a node of that name has answered
+-- ---- the answer of the node of that name
 
 abbrev pub answered_text : Name → Result (Report Framed) Refusal → List ℕ
 answered_text name (Ok report) = answer_text name report.answer
 answered_text name (Err why) = refused_text why
 
--- what a name may be bound to
+-- the process or the reference that a name may be bound to
 abbrev pub made_of : Answer → Made
 made_of (Answer.Pid process) = One (Process process)
 made_of (Answer.Reference reference) = One (Monitor reference)
@@ -31,7 +31,7 @@ abbrev pub made_by : Result (Report Framed) Refusal → Made
 made_by (Ok report) = made_of report.answer
 made_by (Err why) = Nothing
 
--- ---- what a seat has asked for
+-- ---- the requests of a seat
 
 -- the act was entered, the seat has its receipt, and the answer that the receipt has was printed
 pub record Entered (act : Act) (name : Name) (seat after : Seat) (old_text new_text : List ℕ) (made : Made) : Type 0 where

@@ -1,4 +1,4 @@
--- What a line says where nodes have threads: four commands aren't there, since threads take by themselves what comes.
+-- The meaning of a line if nodes have threads. Four commands are missing: threads take by themselves the items that come.
 use Rattle.std.specs.Prelude.{Option, Some, ℕ, Bool, true, false, List, Result, Ok, Err, if◌then◌else◌}
 use Rattle.dist_model.specs.Names.{Name}
 use Rattle.script_lines.specs.Lines.{line_says, verb_in}

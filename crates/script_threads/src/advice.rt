@@ -1,4 +1,4 @@
-//! What is said of a bad line beside the reason.
+//! The advice on a bad line, beside the reason.
 
 use script_lines::{Reason, Verb, verb_in};
 use script_terms::Names;

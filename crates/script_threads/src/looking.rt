@@ -1,4 +1,4 @@
-//! What is seen of nodes in threads.
+//! Looks at nodes in threads.
 ghost use Rattle.std.specs.Prelude.{◌≡◌, IfOk, string_bytes, true};
 ghost use Rattle.dist_model.specs.Node.{route};
 ghost use Rattle.node_core.specs.Model.{model_of};
@@ -45,7 +45,7 @@ fn live_at(node: &Node, peer: &Atom) -> Result<Live, Refusal>
     }
 }
 
-// What there is to see of a node.
+// Returns the lines that show a node.
 fn shown(alloc: Global, node: &Node) -> Result<String, Refusal>
     ensures { IfOk result (λ text. string_bytes text ≡ shown_node (model_of node.now)) }
 {
@@ -93,7 +93,7 @@ impl Running {
             .unwrap_or(End::None)
     }
 
-    // What there is to see of the node at a place.
+    // Returns the lines that show the node at a place.
     fn shown_at<R: Wait>(&self, rt: &R, alloc: Global, place: usize) -> Result<String, Refusal> {
         self.cluster.look(rt, place, |node| shown(alloc, node))?
     }

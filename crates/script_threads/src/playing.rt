@@ -71,6 +71,8 @@ impl NodeThreads {
             Line::Register { .. } => Ok(Made::Nothing),
             Line::Unregister { .. } => Ok(Made::Nothing),
             Line::WhereIs { .. } => Ok(Made::Nothing),
+            Line::SendName { .. } => Ok(Made::Nothing),
+            Line::MonitorName { .. } => Ok(Made::Nothing),
         }
     }
 

@@ -7,7 +7,7 @@ ghost use Rattle.script_threads.specs.Reading.{is_missing, says};
 use script_lines::{Line, MayCome, Reason, Verb, read_line, verb_in};
 use script_terms::Names;
 
-// Whether a command isn't there for nodes in threads, which take by themselves what comes.
+// Returns true if nodes in threads have no such command: they take by themselves the items that come.
 fn is_missing(verb: Option<Verb>) -> bool
     ensures { result ≡ is_missing verb }
 {
@@ -20,7 +20,7 @@ fn is_missing(verb: Option<Verb>) -> bool
     }
 }
 
-/// What a line says; None where it is to be passed over. It takes no memory.
+/// Returns the meaning of a line, or [`None`] if it is a comment or has no words. Never allocates.
 ///
 /// # Errors
 /// The first reason that fits, where the line is a bad one.

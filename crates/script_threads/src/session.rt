@@ -26,7 +26,7 @@ pub struct ThreadedSession {
     started: bool,
 }
 
-// Whether a line is for a node whose name another has.
+// Returns true if a line is for a node whose name another has.
 fn is_taken(threads: &NodeThreads, line: Line) -> bool
     ensures { result ≡ is_taken (said line.entry) (names_of (nodes_of threads.now.cast)) }
 {
@@ -36,8 +36,8 @@ fn is_taken(threads: &NodeThreads, line: Line) -> bool
     }
 }
 
-// What a line's command makes, and the name that the line gives to it. With the first command that no
-// line for a node may follow the threads begin.
+// Carries out a line's command. Returns the process or monitor that it makes, and the name that the line
+// gives to it. Starts the threads with the first command that no line for a node may follow.
 fn carry_out<R: Machine>(
     rt: &R,
     alloc: Global,
@@ -73,7 +73,7 @@ impl ThreadedSession {
         }
     }
 
-    // Which of the lines may still come that stand at the beginning alone.
+    // Returns true for each kind of line that stands only at the beginning and may still come.
     fn may_come(&self) -> Coming
         ensures { (known : Known) → IsKnown self.now known → result ≡ may_come known }
     {

@@ -7,7 +7,7 @@ use script_core::{Form, Machine, Outcome, Reason, read_options};
 use std::alloc::{AllocError, Global};
 
 /// Stories in which nothing depends on who is first: what each is about, and its script.
-const STORIES: [(&str, &str); 9] = [
+const STORIES: [(&str, &str); 11] = [
     (
         "a link is made and taken back",
         "node a@h c\nnode b@h c\nspawn a@h p\nspawn b@h q\ndial a@h b@h\nsettle\nlink p q\nsettle\nends p q\nlinks p\nlinks q\nunlink q p\nsettle\nends p q\nshow\n",
@@ -39,6 +39,14 @@ const STORIES: [(&str, &str); 9] = [
     (
         "cookies differ",
         "node a@h secret\nnode b@h other\ndial a@h b@h\nsettle\nroute a@h b@h\nroute b@h a@h\ndial a@h b@h\nlose a@h b@h\nsettle\ndial a@h b@h\nsettle\nlose b@h a@h\n",
+    ),
+    (
+        "messages come to registered names",
+        "node a@h c\nnode b@h c\nspawn a@h p\nspawn b@h q\nregister q srv\nsendname p b@h srv early\nsettle\ndial a@h b@h\nsettle\nsendname p b@h srv one\nsendname p b@h srv {two,$p}\nsendname p b@h nobody three\nsettle\nsendname q b@h srv four\nsettle\nshow\nreceive q\ndie q boom\nsettle\nwhereis b@h srv\nsendname p b@h srv late\nsettle\nspawn b@h r\nregister r srv\nsendname p b@h srv five\nsettle\nreceive r\nreceive r\n",
+    ),
+    (
+        "a monitor by name tells of the process that had it",
+        "node a@h c 3\nnode b@h c 3\nnode c@h c\nspawn a@h p\nspawn b@h q\nspawn b@h r\nregister q srv\nmonitorname p b@h srv early\nreceive p\ndial a@h b@h\nsettle\nmonitorname p b@h srv m\nsettle\nunregister q\nregister r srv\ndie r boom\nsettle\nreceive p\ndie q bang\nsettle\nreceive p\nmonitorname p b@h srv n\nsettle\nreceive p\ndemonitor p n\ndial a@h c@h\nsettle\nmonitorname p c@h srv x\nmonitorname p a@h srv x\nsettle\nreceive p\n",
     ),
     (
         "what isn't there is refused",

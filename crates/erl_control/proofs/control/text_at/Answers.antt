@@ -1,4 +1,3 @@
-use Rattle.std.proofs.Common.{sym, ◌∙◌}
 use Rattle.erl_control.proofs.Answered.{no_head, no_fields, other_arity, some_text}
 use Rattle.erl_control.proofs.control.text_at.Goals as goal
 

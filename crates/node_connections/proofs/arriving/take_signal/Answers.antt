@@ -7,7 +7,9 @@ use Rattle.dist_model.specs.Items.{Signalled, kind_of}
 use Rattle.dist_model.specs.Taking.{take}
 use Rattle.dist_model.specs.Work.{at_work}
 use Rattle.dist_model.specs.declared.report.Answer.{Answer}
+use Rattle.dist_model.specs.Names.{Name}
 use Rattle.node_plan.proofs.PlanMakes.{makes_it}
+use Rattle.node_plan.specs.Carried.{Carries}
 use Rattle.node_plan.proofs.Outcomes.{planned_by}
 use Rattle.node_plan.specs.Planned.{Plans}
 use Rattle.node_plan.specs.Seen.{seen}
@@ -35,4 +37,5 @@ returns c =
     rw c.or_refuse.ensures (planned_by m _ (Answer.Took (kind_of item)) work c.take.new.plan c.take.result
     (ap (λ b. cond b (Accepts (Answer.Took (kind_of item)) work) (fault Fault.Forged side.trunk (side_of side) (at_work m))) good)
     (c.take.ensures.told m ∙ c.answers.ensures.told m ∙ ap Answer.Took c.kind.ensures)
-    (c.take.ensures.carries (side_of side).peer (at_work m) (c.answers.ensures.carries m (at_work m) c.requires.carries)))
+    (subst (λ (source : Name). Carries m (take source c.args.signal.now (at_work m)) c.take.new.plan c.take.result) c.atom.ensures
+    (c.take.ensures.carries (at_work m) (c.answers.ensures.carries m (at_work m) c.requires.carries))))

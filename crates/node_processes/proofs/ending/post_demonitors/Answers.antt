@@ -45,7 +45,7 @@ loop-reference-preserved c =
     let p = c.args.process.now in
     let passes = λ (w : Watch). same_pid w.owner p in
     let entries = fm.entries c.watches-watches.result.now.monitors in
-    let told_of = λ (e : Reference × Watch). cond (same_pid e.1.owner p) (taken_back p e.1.target e.0) [] in
+    let told_of = λ (e : Reference × Watch). cond (same_pid e.1.owner p) (taken_back p e.1.target e.0 ∷ []) [] in
     let behind = option_copied c.loop-reference.behind in
     let found : next passes behind entries ≡ Some c.in-Some.field-0.now = sym c.next_owned_by.ensures ∙ ap option_copied c.in-Some.is in
     let item = c.in-Some.field-0.now in
@@ -74,6 +74,6 @@ returns-clause-carries c = λ w h.
     subst (CarriesOut c.loop-reference.plan m)
     (ap (λ (l : List (Reference × Watch)). post_all (demonitors p l) w) all
     ∙ ap (λ (letters : List Addressed). post_all letters w) (flat_passing (λ (e : Reference × Watch). same_pid e.1.owner p)
-    (λ (e : Reference × Watch). taken_back p e.1.target e.0) entries)
+    (λ (e : Reference × Watch). taken_back p e.1.target e.0 ∷ []) entries)
     ∙ ap (λ (monitors : WatchMap). post_all (demonitors p (fm.entries monitors)) w) c.watches-watches.ensures)
     (c.loop-reference.invariant.told w h)

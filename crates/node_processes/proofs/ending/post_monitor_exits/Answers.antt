@@ -48,7 +48,7 @@ loop-reference-preserved c =
     let x = c.args.reason.now in
     let passes = λ (w : Registration). same_pid w.held p in
     let entries = fm.entries c.watchers-watchers.result.now.monitors in
-    let told_of = λ (e : Reference × Registration). cond (same_pid e.1.held p) (told_end e.1.target e.1.owner e.0 x) [] in
+    let told_of = λ (e : Reference × Registration). cond (same_pid e.1.held p) (told_end e.1.target e.1.owner e.0 x ∷ []) [] in
     let behind = option_copied c.loop-reference.behind in
     let found : next passes behind entries ≡ Some c.in-Some.field-0.now = sym c.next_held.ensures ∙ ap option_copied c.in-Some.is in
     let item = c.in-Some.field-0.now in
@@ -78,6 +78,6 @@ returns-clause-carries c = λ w h.
     subst (CarriesOut c.loop-reference.plan m)
     (ap (λ (l : List (Reference × Registration)). post_all (monitor_exits p x l) w) all
     ∙ ap (λ (letters : List Addressed). post_all letters w) (flat_passing (λ (e : Reference × Registration). same_pid e.1.held p)
-    (λ (e : Reference × Registration). told_end e.1.target e.1.owner e.0 x) entries)
+    (λ (e : Reference × Registration). told_end e.1.target e.1.owner e.0 x ∷ []) entries)
     ∙ ap (λ (monitors : RegistrationMap). post_all (monitor_exits p x (fm.entries monitors)) w) c.watchers-watchers.ensures)
     (c.loop-reference.invariant.told w h)

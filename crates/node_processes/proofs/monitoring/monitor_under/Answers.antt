@@ -8,6 +8,7 @@ use Rattle.erl_names.specs.Ids.{reference_of}
 use Rattle.erl_term.specs.declared.term.Reference.{Reference}
 use Rattle.node_plan.specs.Carried.{Carries}
 use Rattle.node_plan.specs.Seen.{seen}
+use Rattle.node_plan.specs.Targets.{target_of}
 use Rattle.node_processes.proofs.monitoring.monitor_under.Goals as goal
 
 on_ok : (r : Result (Unit {0}) AllocError) (P : Type 0) → P → OnOk r P
@@ -20,7 +21,7 @@ returns-clause-carries c = λ h.
     let is : c.in_ok-reference.reference ≡ reference_of m.mint c.args.count = search rules in
     let P : Reference → Type 0 =
     λ r. Carries m
-    (monitor r c.args.owner.now c.args.target.now (draw kind.Reference (at_work m))) c.monitor_as.new.plan c.monitor_as.result in
+    (monitor r c.args.owner.now (target_of c.args.target) (draw kind.Reference (at_work m))) c.monitor_as.new.plan c.monitor_as.result in
     subst P is (c.monitor_as.ensures.carries (c.answers.ensures.carries m (at_work m) h))
 
 pub returns-clause-told : goal.returns-clause-told

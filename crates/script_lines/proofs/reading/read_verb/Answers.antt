@@ -23,3 +23,9 @@ returns-in-Register c = λ look knows. rw c.in-Register.is (c.register_line.ensu
 
 pub returns-in-WhereIs : goal.returns-in-WhereIs
 returns-in-WhereIs c = λ look knows. rw c.in-WhereIs.is (c.whereis_line.ensures c.args.may_come look knows)
+
+pub returns-in-SendName : goal.returns-in-SendName
+returns-in-SendName c = λ look knows. rw c.in-SendName.is (c.sendname_line.ensures c.args.may_come look knows)
+
+pub returns-in-MonitorName : goal.returns-in-MonitorName
+returns-in-MonitorName c = λ look knows. rw c.in-MonitorName.is (c.monitorname_line.ensures c.args.may_come look knows)
