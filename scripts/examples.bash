@@ -174,11 +174,12 @@ wrong_after_faults() {
     done
 }
 
-# Prints what examples/exit_payload.script has to print with nodes of these profiles: a node of the first
-# tells another flag word, and where one has it the reason of the EXIT stands within the control term.
+# Prints what examples/exit_payload.script has to print with nodes of these profiles: each node tells the flag
+# word of its profile, and where one has the first the reason of the EXIT stands within the control term.
 expected_under_profiles() {
     awk -v a="$1" -v b="$2" '
-        (($2 == "a@h" && a == 1) || ($2 == "b@h" && b == 1)) && $1 == "sent" { sub(/000000040345010C/, "000000040305010C") }
+        BEGIN { profile["a@h"] = a; profile["b@h"] = b; split("000000040305010C 000000040345010C 000000040345012C", flags) }
+        $1 == "sent" { sub(/000000040345012C/, flags[profile[$2]]) }
         $1 == "sent" && (a == 1 || b == 1) {
             # a length, and PAYLOAD_EXIT {24, From, To} with the reason noproc behind it
             if (sub(/^00000033708368036118/, "00000032708368046103", $4)) sub(/8377066E6F70726F63$/, "77066E6F70726F63", $4)
@@ -186,25 +187,44 @@ expected_under_profiles() {
         { print }' examples/exit_payload.expected
 }
 
+# Prints a script that monitors a name at a connected node, and what it has to print with nodes of these
+# profiles: the monitor is refused unless both have the third.
+name_under_profiles() {
+    printf '%s\n' "node a@h c $1" "node b@h c $2" 'spawn a@h p' 'spawn b@h q' 'register q srv' 'dial a@h b@h' settle \
+        'monitorname p b@h srv m' settle 'die q boom' settle 'receive p' > "$room/script"
+    {
+        printf '%s\n' 'up a@h 1' 'up b@h 1' '<a@h.1.0.1>' '<b@h.1.0.1>' done 'trunk a@h/1' settled
+        if [ "$1$2" = 33 ]; then
+            printf '%s\n' '#Ref<a@h.1.1.0.0>' settled done settled "message {'DOWN',#Ref<a@h.1.1.0.0>,process,{srv,b@h},boom}"
+        else
+            printf '%s\n' 'refused 28 NotOffered' settled done settled empty
+        fi
+    } > "$room/wanted"
+}
+
 # Prints each way in which the runs of these examples depend on the profiles of their nodes, but for the
-# frames of examples/exit_payload.script.
+# frames of examples/exit_payload.script and a monitor of a name.
 wrong_under_profiles() {
     local a b name
-    for a in 1 2; do
-        for b in 1 2; do
-            for name in lost_connection both_dial wrong_cookie restart exit_payload; do
-                sed -E "s/^(node a@h [a-z]+).*/\1 $a/; s/^(node b@h [a-z]+).*/\1 $b/" "examples/$name.script" > "$room/script"
-                if [ "$name" = exit_payload ]; then
-                    expected_under_profiles "$a" "$b" > "$room/wanted"
-                    timeout 60 "$program" --trace < "$room/script" 2>&1 | diff "$room/wanted" -
-                else
-                    timeout 60 "$program" < "$room/script" 2>&1 | diff "examples/$name.expected" -
-                fi
-                [ ! -f "examples/$name.threads" ] || {
-                    { print_plainly "examples/$name"; echo merged; } > "$room/wanted"
-                    timeout 60 "$program" --threads < "$room/script" 2>&1 | diff "$room/wanted" -
-                }
-            done | sed "s/^/profiles $a and $b: /"
+    for a in 1 2 3; do
+        for b in 1 2 3; do
+            {
+                name_under_profiles "$a" "$b"
+                timeout 60 "$program" < "$room/script" 2>&1 | diff "$room/wanted" -
+                for name in lost_connection both_dial wrong_cookie restart exit_payload; do
+                    sed -E "s/^(node a@h [a-z]+).*/\1 $a/; s/^(node b@h [a-z]+).*/\1 $b/" "examples/$name.script" > "$room/script"
+                    if [ "$name" = exit_payload ]; then
+                        expected_under_profiles "$a" "$b" > "$room/wanted"
+                        timeout 60 "$program" --trace < "$room/script" 2>&1 | diff "$room/wanted" -
+                    else
+                        timeout 60 "$program" < "$room/script" 2>&1 | diff "examples/$name.expected" -
+                    fi
+                    [ ! -f "examples/$name.threads" ] || {
+                        { print_plainly "examples/$name"; echo merged; } > "$room/wanted"
+                        timeout 60 "$program" --threads < "$room/script" 2>&1 | diff "$room/wanted" -
+                    }
+                done
+            } | sed "s/^/profiles $a and $b: /"
         done
     done
 }

@@ -40,7 +40,7 @@ const VERSION: &str = "0.1";
 const COMMANDS: &str = "\
 Commands of a script, one a line:
   node NAME COOKIE [PROFILE]
-                     a node; PROFILE is 1, 2 or 3, by default 2; node lines come before all other commands
+                     a node; PROFILE is 1, 2 or 3, by default 3; node lines come before all other commands
   pair               two nodes with a process each, p and q, connected; the first command of all
   spawn NODE name    a process, under this name from then on
   send p q TERM      a message to q

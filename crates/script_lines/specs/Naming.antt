@@ -94,9 +94,9 @@ profile_named word =
     else if bytes_eq word (codes "3") then Ok Profile.Three
     else Err WrongWords
 
--- a node line with no third word takes the second profile
+-- a node line with no third word takes the third profile
 abbrev pub profile_in : Option (List ℕ) → Result Profile Reason
-profile_in None = Ok Profile.Two
+profile_in None = Ok Profile.Three
 profile_in (Some word) = profile_named word
 
 -- a text has to be a term

@@ -193,13 +193,13 @@ fn profile_named(word: &str) -> Result<Profile, Reason>
     }
 }
 
-/// Returns the profile that `word` names, `1`, `2` or `3`, or [`Profile::Two`] if there is no word.
+/// Returns the profile that `word` names, `1`, `2` or `3`, or [`Profile::Three`] if there is no word.
 pub(crate) fn profile_in(word: Option<&str>) -> Result<Profile, Reason>
     ensures { result ≡ profile_in (option_copied word.entry) }
 {
     match word {
         Some(word) => profile_named(word),
-        None => Ok(Profile::Two),
+        None => Ok(Profile::Three),
     }
 }
 

@@ -23,7 +23,7 @@ abbrev pub setup_of : (cookie : List ℕ) → Profile → Setup
 setup_of cookie profile = record { cookie = cookie; profile = profile }
 
 abbrev pub pair_node : Name → Name × Setup
-pair_node name = (name, setup_of (codes "c") Profile.Two)
+pair_node name = (name, setup_of (codes "c") Profile.Three)
 
 abbrev pub pair_nodes : List (Name × Setup)
 pair_nodes = pair_node first ∷ pair_node second ∷ []

@@ -68,7 +68,7 @@ pub(crate) fn first_process(alloc: Global, node: &str) -> Result<Pid, AllocError
 fn pair_node(alloc: Global, name: &str) -> Result<(NodeName, Setup), AllocError>
     ensures { IfOk result (λ node. node ≡ pair_node name.now) }
 {
-    let setup = setup(alloc, COOKIE, Profile::Two)?;
+    let setup = setup(alloc, COOKIE, Profile::Three)?;
     Ok((node_name(alloc, name)?, setup))
 }
 

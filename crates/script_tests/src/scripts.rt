@@ -610,7 +610,7 @@ const DRAWN: [(&str, &[&str], Outcome); 9] = [
         Outcome::Ran,
     ),
     (
-        "node a@h c 3\nnode b@h c 3\nspawn a@h p\nspawn b@h q\nregister q srv\ndial a@h b@h\nsettle\nmonitorname p b@h srv m\nmonitorname p b@h srv n\ndemonitor p n\nsettle\ndie q boom\nsettle\n",
+        "node a@h c\nnode b@h c\nspawn a@h p\nspawn b@h q\nregister q srv\ndial a@h b@h\nsettle\nmonitorname p b@h srv m\nmonitorname p b@h srv n\ndemonitor p n\nsettle\ndie q boom\nsettle\n",
         &[
             ">monitorname p b@h srv m<",
             ">MONITOR_P<",

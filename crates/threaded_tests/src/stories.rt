@@ -46,7 +46,7 @@ const STORIES: [(&str, &str); 11] = [
     ),
     (
         "a monitor by name tells of the process that had it",
-        "node a@h c 3\nnode b@h c 3\nnode c@h c\nspawn a@h p\nspawn b@h q\nspawn b@h r\nregister q srv\nmonitorname p b@h srv early\nreceive p\ndial a@h b@h\nsettle\nmonitorname p b@h srv m\nsettle\nunregister q\nregister r srv\ndie r boom\nsettle\nreceive p\ndie q bang\nsettle\nreceive p\nmonitorname p b@h srv n\nsettle\nreceive p\ndemonitor p n\ndial a@h c@h\nsettle\nmonitorname p c@h srv x\nmonitorname p a@h srv x\nsettle\nreceive p\n",
+        "node a@h c\nnode b@h c\nnode c@h c 2\nspawn a@h p\nspawn b@h q\nspawn b@h r\nregister q srv\nmonitorname p b@h srv early\nreceive p\ndial a@h b@h\nsettle\nmonitorname p b@h srv m\nsettle\nunregister q\nregister r srv\ndie r boom\nsettle\nreceive p\ndie q bang\nsettle\nreceive p\nmonitorname p b@h srv n\nsettle\nreceive p\ndemonitor p n\ndial a@h c@h\nsettle\nmonitorname p c@h srv x\nmonitorname p a@h srv x\nsettle\nreceive p\n",
     ),
     (
         "what isn't there is refused",
@@ -100,7 +100,7 @@ pub fn is_silent<R: Machine>(rt: &R, alloc: Global) -> bool {
 /// of the node that dials is the seed, and so is the first of the other node.
 const TRACE: (&str, &str) = (
     "node a@h c\nnode b@h c\nspawn a@h p\nspawn b@h q\ndial a@h b@h\nsettle\nlink p q\nsettle\nends p q\n",
-    "up a@h 1\nup b@h 1\n<a@h.1.0.1>\n<b@h.1.0.1>\ntrunk a@h/1\nsettled\ndone\nsettled\nends active active\nsent a@h b@h 00124E000000040345010C000000010003614068\nsent b@h a@h 0003736F6B\nsent b@h a@h 00164E000000040345010CFFFFFFFF000000010003624068\nsent a@h b@h 001572FFFFFFFFB6B9428EF079FC89EA04BB26BBF1A0DA\nsent b@h a@h 001161B6B9428EF079FC89EA04BB26BBF1A0DA\nsent a@h b@h 0000002A708368036101587703614068000000010000000000000001587703624068000000010000000000000001\nmerged\n",
+    "up a@h 1\nup b@h 1\n<a@h.1.0.1>\n<b@h.1.0.1>\ntrunk a@h/1\nsettled\ndone\nsettled\nends active active\nsent a@h b@h 00124E000000040345012C000000010003614068\nsent b@h a@h 0003736F6B\nsent b@h a@h 00164E000000040345012CFFFFFFFF000000010003624068\nsent a@h b@h 001572FFFFFFFFB6B9428EF079FC89EA04BB26BBF1A0DA\nsent b@h a@h 001161B6B9428EF079FC89EA04BB26BBF1A0DA\nsent a@h b@h 0000002A708368036101587703614068000000010000000000000001587703624068000000010000000000000001\nmerged\n",
 );
 
 /// Whether the frames are printed at the end, in the order in which they were sent.
