@@ -9,10 +9,10 @@ use Rattle.dist_books.specs.Acting.{Acts, Nodes, Way, name_at, opened_at, same_w
 use Rattle.dist_books.specs.Books.{Book, Kept, Log, Port, Stamped, book_at, number_of, on_the_way}
 use Rattle.dist_books.specs.Books.{outbox_to, port_of, put_to, sender, slot_of, taken_by}
 use Rattle.dist_books.specs.Merged.{AreBooks, BooksAreARun, BooksAreSafe, IsMerged, Placed, Precedes, events_of, reports_of}
-use Rattle.dist_model.specs.Histories.{Throughout}
 use Rattle.dist_model.specs.Items.{Item}
 use Rattle.dist_model.specs.Runs.{Runs, opening}
 use Rattle.dist_model.specs.Safety.{Safe}
+use Rattle.dist_model.specs.Traces.{ThroughoutTraced}
 use Rattle.dist_model.specs.World.{World}
 use Rattle.dist_books.proofs.LogsAreOneRun.{logs_are_a_run}
 use Rattle.dist_books.specs.Logs.{sent_on, took_on}
@@ -119,7 +119,7 @@ beginning (x ∷ before) behind world last runs =
     let rest = beginning before behind runs.0 last runs.2 in
     (rest.0, (runs.0, runs.1, rest.1))
 
-pub books_are_safe : IsLocal → KeepsBearings → Throughout Safe → BooksAreSafe
+pub books_are_safe : IsLocal → KeepsBearings → ThroughoutTraced Safe → BooksAreSafe
 books_are_safe local bearings safe nodes books merged are is before behind parts =
     let run = books_are_a_run local bearings nodes books merged are is in
     let first = beginning before behind (opening nodes) run.world

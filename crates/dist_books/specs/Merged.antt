@@ -2,9 +2,9 @@
 use Rattle.std.specs.Prelude.{◌≡◌, ◌⊎◌, ℕ, ◌<◌, Some, List, ◌++◌, [], AllPairs, IsPermutation, length, map}
 use Rattle.dist_books.specs.Acting.{Nodes, Way, name_at}
 use Rattle.dist_books.specs.Books.{AllKept, AreDistinct, Book, WiresAgree, book_at, on_the_way}
-use Rattle.dist_model.specs.Histories.{told}
 use Rattle.dist_model.specs.Runs.{Runs, opening}
 use Rattle.dist_model.specs.Safety.{Safe}
+use Rattle.dist_model.specs.Traces.{traced}
 use Rattle.dist_model.specs.World.{Event, Report, World, list_to, node_of}
 use Rattle.dist_books.specs.Logs.{Entry, bare}
 use Rattle.dist_books.specs.Runs.{of_node}
@@ -48,7 +48,7 @@ pub record IsOneRun (nodes : Nodes) (books : List Book) (merged : List Placed) :
 pub record IsSafeAt (nodes : Nodes) (before : List Placed) : Type 0 where
   pub world : World
   pub runs : Runs (opening nodes) (events_of before) (reports_of before) world
-  pub safe : Safe (told (events_of before) (reports_of before) []) world
+  pub safe : Safe (traced (opening nodes) (events_of before) (reports_of before) []) world
 
 -- books that replay, and whose wires agree
 pub record AreBooks (nodes : Nodes) (books : List Book) : Type 0 where

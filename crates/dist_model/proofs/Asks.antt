@@ -1,12 +1,13 @@
--- Which event sends MONITOR_P: a Monitor call alone.
+-- A Monitor or a MonitorName call alone sends MONITOR_P.
 use Rattle.erl_names.specs.Draw as kind
 use Rattle.std.proofs.Common.{◌≡◌, ℕ, Bool, true, false, cond, List, [], ◌∷◌, ◌++◌, refl, sym}
-use Rattle.std.proofs.Common.{ap, ◌∙◌, subst, Option, Some, None, ◌⊎◌, inl, inr, Contains, ◌&&◌, nat_lt, ◌+◌, ◌^◌}
-use Rattle.std.proofs.lemmas.List.Elements.{Contains-append_right, Contains-push_cases}
+use Rattle.std.proofs.Common.{ap, ◌∙◌, subst, Option, Some, None, ◌⊎◌, inl, inr, Contains, ◌&&◌, nat_lt, ◌+◌, ◌^◌, ◌≤◌, append-nil, append_assoc, arith, length}
+use Rattle.std.proofs.lemmas.List.Elements.{Contains-append_cases, Contains-push_cases}
 use Rattle.std.specs.FinMap as fm
-use Rattle.dist_model.proofs.Calls.{IfGoes, if_cond, if_drawn, if_not}
+use Rattle.dist_model.proofs.Calls.{IfGoes, if_cond, if_not}
 use Rattle.dist_model.proofs.ClosedSides.{any_found}
-use Rattle.dist_model.proofs.Entries.{registered_found, watch_found}
+use Rattle.dist_model.proofs.Entries.{registered_found, same_reference_true, watch_found}
+use Rattle.dist_model.proofs.Envelopes.{Envelope, sent_in}
 use Rattle.dist_model.proofs.KeepEvents.{dial_goes, outer_parts}
 use Rattle.dist_model.proofs.KeepParts.{record_keeps}
 use Rattle.dist_model.proofs.Learnt.{Honest, Turns, fresh_learns, known_learns, lose_learns, swept_learns}
@@ -25,20 +26,20 @@ use Rattle.dist_model.specs.Handshake.{with_side, write}
 use Rattle.dist_model.specs.Incarnations.{started, stopped}
 use Rattle.dist_model.specs.Items.{Handshake, Item, Signalled, has_reason}
 use Rattle.dist_model.specs.Losses.{any_side, least_record, link_to, sweep_by, sweep_record}
-use Rattle.monitor_core.specs.Monitors.{watch_of}
-use Rattle.dist_model.specs.Monitoring.{demonitor_by, monitor, pid_watch, unwatch, watch}
+use Rattle.monitor_core.specs.Monitors.{target_node, watch_of}
+use Rattle.dist_model.specs.Monitoring.{demonitor_by, monitor, unwatch, watch}
 use Rattle.dist_model.specs.Names.{Name, same_name, same_pid}
 use Rattle.dist_model.specs.Node.{Node, ends_of, is_stranger, living, monitors_names, reaches, route, payload_to}
 use Rattle.dist_model.specs.NodeEvents.{Arrive, Call, Dial, Local, Lose, NodeEvent, Start, Stop, Sweep, at_node}
 use Rattle.dist_model.specs.Sides.{TrunkSide, is_losing, is_over}
 use Rattle.dist_model.specs.Taking.{take_item}
-use Rattle.dist_model.specs.Work.{Addressed, Work, at_work, draw, keep_local, post, post_all, put, report, send_on, spelled, to_node, to_pid}
+use Rattle.dist_model.specs.Work.{Addressed, Work, at_work, draw, keep_local, post, post_all, put, report, send_on, spelled}
 use Rattle.erl_control.specs.declared.signal.Signal.{Signal}
 use Rattle.erl_handshake.specs.declared.message.ShakeMsg.{ShakeMsg}
 use Rattle.erl_names.specs.Ids.{reference_of}
 use Rattle.erl_names.specs.Minted.{id_of}
 use Rattle.erl_names.specs.declared.trunk.TrunkId.{TrunkId}
-use Rattle.erl_term.specs.Data.{Data, pid}
+use Rattle.erl_term.specs.Data.{Data}
 use Rattle.erl_term.specs.declared.refusal.Refusal.{Refusal}
 use Rattle.erl_term.specs.declared.term.Pid.{Pid}
 use Rattle.erl_term.specs.declared.term.Reference.{Reference}
@@ -48,20 +49,32 @@ use Rattle.link_core.specs.declared.end.End.{End}
 use Rattle.monitor_core.specs.declared.monitor.Target.{Target}
 use Rattle.monitor_core.specs.declared.monitor.Watch.{Watch}
 use Rattle.monitor_core.specs.declared.monitor.Registration.{Registration}
-use Rattle.dist_model.specs.Telling.{object, taken_back, told_end}
+use Rattle.dist_model.specs.Telling.{asked, monitor_signal, object, taken_back, told_end}
+use Rattle.dist_model.specs.Traces.{IsNameAt}
+use Rattle.dist_model.proofs.Keys.{same_name_true}
+use Rattle.dist_model.proofs.Known.{contains_rest}
+use Rattle.dist_model.proofs.Lands.{asked_is, is_call}
+use Rattle.dist_model.specs.World.{rest_of}
 
 -- MONITOR_P
 abbrev pub asks : Item → Bool
 asks (Signalled (Signal.Monitor p q r) pay) = true
+asks (Signalled (Signal.MonitorName p name r) pay) = true
 asks _ = false
 
--- none was sent, and in the own list are those of this list alone
+-- the call by which p monitors the target
+abbrev pub monitoring : Pid → Target → Command
+monitoring p (Target.Pid q) = Command.Monitor p q
+monitoring p (Target.Name name node) = Command.MonitorName p node name
+
+-- none was sent, and none came behind this list to the own one
 abbrev pub UnaskedIn : List Item → Work → Type 0
 UnaskedIn l o = ((t : Option TrunkId) (y : Name) (i : Item) → Contains o.effects (Effect.Sent t y i) → asks i ≡ false)
-    × ((i : Item) → asks i ≡ true → Contains o.node.local i → Contains l i)
+    × (more : List Item) × (o.node.local ≡ l ++ more) × ((i : Item) → Contains more i → asks i ≡ false)
 
 asks_blind : (s : Signal) (pay : Bool) → asks (Signalled s pay) ≡ asks (Signalled s false)
 asks_blind (Signal.Monitor p q r) pay = refl
+asks_blind (Signal.MonitorName p name r) pay = refl
 asks_blind _ pay = refl
 
 abbrev Quiets : List Addressed → Type 0
@@ -110,6 +123,7 @@ demonitors_quiet p (e ∷ es) =
 
 plainly : (s : Signal) → is_plain s ≡ true → asks (Signalled s false) ≡ false
 plainly (Signal.Monitor p q r) h = cc
+plainly (Signal.MonitorName p name r) h = cc
 plainly _ h = refl
 
 abbrev quiet_rules : Rules
@@ -125,10 +139,10 @@ module _ (l : List Item) where
   abbrev Unasked : Work → Type 0
   Unasked = UnaskedIn l
 
-  -- what is reported more sends none
+  -- another effect sends none
   reports : (f : Effect Item) (o : Work) → ((t : Option TrunkId) (y : Name) (i : Item) → ◌≡◌ {A = Effect Item} f (Effect.Sent t y i) → asks i ≡ false)
       → Unasked o → Unasked (report f o)
-  reports f o more k = (λ t y i c. pick t y i (Contains-push_cases o.effects f (Effect.Sent t y i) c), k.1)
+  reports f o more k = (λ t y i c. pick t y i (Contains-push_cases o.effects f (Effect.Sent t y i) c), k.1, k.2, k.3)
     where
       pick : (t : Option TrunkId) (y : Name) (i : Item)
           → Contains o.effects (Effect.Sent t y i) ⊎ (◌≡◌ {A = Effect Item} f (Effect.Sent t y i)) → asks i ≡ false
@@ -154,12 +168,14 @@ module _ (l : List Item) where
       go : (b : Bool) → Unasked (cond b (keep_local (spelled o.node s) o) (send_on (route o.node y) y (spelled o.node s) o))
       go true = (
         (sends None o.node.mint.name (spelled o.node s) o still k).0,
-        λ i a c. pick i a (Contains-push_cases o.node.local (spelled o.node s) i c),
+        k.1 ++ spelled o.node s ∷ [],
+        ap (λ z. z ++ spelled o.node s ∷ []) k.2 ∙ append_assoc l k.1 (spelled o.node s ∷ []),
+        λ i c. pick i (Contains-push_cases k.1 (spelled o.node s) i c),
       )
         where
-          pick : (i : Item) → asks i ≡ true → Contains o.node.local i ⊎ (spelled o.node s ≡ i) → Contains l i
-          pick i a (inl c) = k.1 i a c
-          pick i a (inr e) = let z : true ≡ false = sym a ∙ ap asks (sym e) ∙ still in cc
+          pick : (i : Item) → Contains k.1 i ⊎ (spelled o.node s ≡ i) → asks i ≡ false
+          pick i (inl c) = k.3 i c
+          pick i (inr e) = ap asks (sym e) ∙ still
       go false = goes (route o.node y)
 
   posts_all : (ss : List Addressed) (o : Work) → Quiets ss → Unasked o → Unasked (post_all ss o)
@@ -198,9 +214,9 @@ module _ (l : List Item) where
     sent = λ p m pay e. reports (Effect.Put p m) o (λ t y j q. cc) k;
     named = λ q p name m pay e. reports (Effect.Put p m) o (λ t y j q. cc) k;
     nobody = λ p q r pay e l. refl;
-    nobody_named = λ p name r pay e. refl;
+    nobody_named = λ p name r pay e v. refl;
     joins = λ p q r pay e l. tt;
-    joins_named = λ p name r pay q e l. tt;
+    joins_named = λ p name r pay q e f l. tt;
     drops = λ p q r pay m e h s. tt;
     drops_named = λ p name r pay m e h s. tt;
     tells = λ p q r x pay e h. tt;
@@ -218,11 +234,11 @@ module _ (n : Node) where
   X = UnaskedIn n.local
 
   -- nothing has happened
-  idle : (m : Node) → ((i : Item) → Contains m.local i → Contains n.local i) → X (at_work m)
-  idle m f = (λ t y i c. absurd (none_within (Effect.Sent t y i) c), λ i a c. f i c)
+  idle : (l : List Item) (m : Node) → m.local ≡ l → UnaskedIn l (at_work m)
+  idle l m e = (λ t y i c. absurd (none_within (Effect.Sent t y i) c), [], e ∙ sym (append-nil l), λ i c. absurd (none_within i c))
 
   start : X (at_work n)
-  start = idle n (λ i c. c)
+  start = idle n.local n refl
 
   arrives : (t : TrunkId) (first : Option Item) (w : ℕ) → IfGoes (arrive n t (fm.get n.sides t) first w) X
   arrives t first w = go first (fm.get n.sides t) refl
@@ -239,10 +255,9 @@ module _ (n : Node) where
       go (Some i) None f = fresh_learns (λ u c. Unit {0}) X (turned n.local) (wrote n.local) t (handshake_in i) w (at_work n) (λ l j c e. tt) f start
       go v (Some s) f = comes v s f (is_over s.state)
 
-  takes : (l : List Item) → n.local ≡ l → IfGoes (take_local n l) X
-  takes [] h = tt
-  takes (i ∷ rest) h = takes_item n.local n.mint.name i (at_work (record n { local = rest })) (idle (record n { local = rest })
-      (λ j c. subst (λ z. Contains z j) (sym h) (Contains-append_right (i ∷ []) rest j c)))
+  takes : (l : List Item) → IfGoes (take_local n l) (UnaskedIn (rest_of l))
+  takes [] = tt
+  takes (i ∷ rest) = takes_item rest n.mint.name i (at_work (record n { local = rest })) (idle rest (record n { local = rest }) refl)
 
   swept : (y : Name) → X (sweep_record (least_record y n) (at_work n))
   swept y = subst X (sym (least_as y (at_work n))) (link_swept quiet_rules X (quiet_closed n.local) (link_to y (fm.entries n.ends)) y
@@ -264,77 +279,105 @@ module _ (n : Node) where
   demonitored (Some v) p r = if_cond (same_pid v.owner p) _ Refusal.NotTheOwner X
       (λ h. posts n.local (taken_back p v.target r) (unwatch r (at_work n)) ((back_quiet p v.target r).0) start)
 
-  -- a process monitors another by its name: no MONITOR_P of a pid is sent
-  asks_by_name : (p : Pid) (y name : Name) (count : ℕ)
-      → X (monitor (reference_of n.mint count) p (Target.Name name y) (draw kind.Reference (at_work n)))
-  asks_by_name p y name count = go (reaches n y)
-    where
-      r : Reference
-      r = reference_of n.mint count
-
-      o : Work
-      o = draw kind.Reference (at_work n)
-
-      go : (b : Bool) → X (cond b (post (to_node y (Signal.MonitorName p name r)) (watch r (watch_of p (Target.Name name y)) o))
-          (put p (down_term r (object (Target.Name name y)) noconnection) o))
-      go true = posts n.local (to_node y (Signal.MonitorName p name r)) (watch r (watch_of p (Target.Name name y)) o) refl start
-      go false = reports n.local (Effect.Put p (down_term r (object (Target.Name name y)) noconnection)) o (λ t z i q. cc) start
-
   apart : (c : Command) → Apart c → IfGoes (call n c) X
   apart c a = call_kept quiet_rules X (quiet_closed n.local) n start c a (λ id e h. start) (λ p q e l r. tt)
 
-  calls : (c : Command) → ((p q : Pid) → c ≡ Command.Monitor p q → ⊥) → IfGoes (call n c) X
+  calls : (c : Command) → ((p : Pid) (t : Target) → c ≡ monitoring p t → ⊥) → IfGoes (call n c) X
   calls (Command.Demonitor p r) a = if_cond (living n p) _ Refusal.NoSuchProcess X (λ l. demonitored (fm.get n.watches r) p r)
-  calls (Command.MonitorName p y name) a = if_cond (living n p) _ Refusal.NoSuchProcess X (λ l.
-      if_cond (monitors_names n y) _ Refusal.NotOffered X (λ f.
-      if_drawn (id_of n.mint kind.Reference) _ X (λ count h. asks_by_name p y name count)))
-  calls c a = apart c (a, (λ p r e. cc), (λ p y name e. cc))
+  calls c a = apart c ((λ p q e. a p (Target.Pid q) e), (λ p r e. cc), (λ p y name e. a p (Target.Name name y) e))
 
--- but for a Monitor call
-pub node_unasked : (names : List Name) (n : Node) (e : NodeEvent) → ((p q : Pid) → e ≡ Call (Command.Monitor p q) → ⊥)
-    → IfGoes (at_node names n e) (UnaskedIn n.local)
-node_unasked names n (Call d) a = if_cond n.up _ Refusal.NodeDown _ (λ u. calls n d (λ p q j. a p q (ap Call j)))
+-- the part of the own list that an event takes over
+abbrev pub own_left : Node → NodeEvent → List Item
+own_left n Local = rest_of n.local
+own_left n Start = []
+own_left n e = n.local
+
+-- but for such a call
+pub node_unasked : (names : List Name) (n : Node) (e : NodeEvent) → ((p : Pid) (t : Target) → e ≡ Call (monitoring p t) → ⊥)
+    → IfGoes (at_node names n e) (UnaskedIn (own_left n e))
+node_unasked names n (Call d) a = if_cond n.up _ Refusal.NodeDown _ (λ u. calls n d (λ p t j. a p t (ap Call j)))
 node_unasked names n (Arrive t first w) a = if_cond n.up _ Refusal.NodeDown _ (λ u. arrives n t first w)
-node_unasked names n Local a = if_cond n.up _ Refusal.NodeDown _ (λ u. takes n n.local refl)
+node_unasked names n Local a = if_cond n.up _ Refusal.NodeDown _ (λ u. takes n n.local)
 node_unasked names n (Lose t) a = if_cond n.up _ Refusal.NodeDown _ (λ u.
     lose_learns (λ u c. Unit {0}) (UnaskedIn n.local) (turned n.local) (wrote n.local) n t (fm.get n.sides t) refl (start n))
 node_unasked names n Sweep a = if_cond n.up _ Refusal.NodeDown _ (λ u. sweeps n (any_side is_losing (fm.entries n.sides)) refl)
 node_unasked names n (Dial y w) a = if_cond n.up _ Refusal.NodeDown _ (λ u.
     dial_goes (UnaskedIn n.local) names n y w (λ i j. sends n.local (Some _) y (Handshake _) (at_work n) refl (start n)))
-node_unasked names n Stop a = if_cond n.up _ Refusal.NodeDown _ (λ u. idle n (stopped n) (λ i c. c))
+node_unasked names n Stop a = if_cond n.up _ Refusal.NodeDown _ (λ u. idle n n.local (stopped n) refl)
 node_unasked names n Start a = if_not n.up _ Refusal.NodeUp _ (if_cond (nat_lt (n.mint.creation + 1) (2 ^ 32)) _ Refusal.IdsUsedUp _
-    (λ u. idle n (started n) (λ i c. absurd (none_within i c))))
+    (λ u. idle n [] (started n) refl))
 
--- ---- a Monitor call
+left_was : (n : Node) (e : NodeEvent) (i : Item) → Contains (own_left n e) i → Contains n.local i
+left_was n Local i c = contains_rest n.local i c
+left_was n Start i c = absurd (none_within i c)
+left_was n (Call d) i c = c
+left_was n (Arrive t f w) i c = c
+left_was n (Lose t) i c = c
+left_was n Sweep i c = c
+left_was n (Dial y w) i c = c
+left_was n Stop i c = c
+
+-- one that is there then was there
+pub was_there : (n : Node) (e : NodeEvent) (o : Work) (i : Item) → UnaskedIn (own_left n e) o → asks i ≡ true → Contains o.node.local i
+    → Contains n.local i
+was_there n e o i k a c = pick (Contains-append_cases (own_left n e) k.1 i (subst (λ l. Contains l i) k.2 c))
+  where
+    pick : Contains (own_left n e) i ⊎ Contains k.1 i → Contains n.local i
+    pick (inl d) = left_was n e i d
+    pick (inr d) = let z : true ≡ false = sym a ∙ k.3 i d in cc
+
+-- ---- such a call
 
 abbrev pub IfAnswers : Outcome → (Answer → Work → Type 0) → Type 0
 IfAnswers (Refuses k) P = Unit {0}
 IfAnswers (Accepts a o) P = P a o
 
--- what it says of a MONITOR_P that it sends on a trunk
-pub record Asked (n : Node) (p q : Pid) (a : Answer) (t : TrunkId) (y : Name) (p' q' : Pid) (r : Reference) : Type 0 where
+-- a MONITOR_P that the call sends on a trunk
+pub record Asked (n : Node) (p : Pid) (g : Target) (a : Answer) (t : TrunkId) (y : Name) (p' : Pid) (g' : Target) (r : Reference) : Type 0 where
   pub owner : p ≡ p'
-  pub target : q ≡ q'
+  pub target : g ≡ g'
   pub answer : a ≡ Answer.Reference r
-  pub to : y ≡ q.node
+  pub to : y ≡ target_node g
   pub here : living n p ≡ true
-  pub away : same_name q.node n.mint.name ≡ false
-  pub route : route n q.node ≡ Some t
+  pub away : same_name (target_node g) n.mint.name ≡ false
+  pub route : route n (target_node g) ≡ Some t
 
--- and of one that it keeps for itself
-pub record AskedHere (n : Node) (p q : Pid) (a : Answer) (p' q' : Pid) (r : Reference) : Type 0 where
+-- and one that its node keeps for itself
+pub record AskedHere (n : Node) (p : Pid) (g : Target) (a : Answer) (p' : Pid) (g' : Target) (r : Reference) : Type 0 where
   pub owner : p ≡ p'
-  pub target : q ≡ q'
+  pub target : g ≡ g'
   pub answer : a ≡ Answer.Reference r
   pub here : living n p ≡ true
-  pub own : same_name q.node n.mint.name ≡ true
+  pub own : same_name (target_node g) n.mint.name ≡ true
 
-module _ (n : Node) (p q : Pid) where
-  abbrev AllAsked : Answer → Work → Type 0
-  AllAsked a o = ((t : TrunkId) (y : Name) (p' q' : Pid) (r : Reference) (pay : Bool)
-      → Contains o.effects (Effect.Sent (Some t) y (Signalled (Signal.Monitor p' q' r) pay)) → Asked n p q a t y p' q' r)
-      × ((p' q' : Pid) (r : Reference) (pay : Bool) → Contains o.node.local (Signalled (Signal.Monitor p' q' r) pay)
-      → Contains n.local (Signalled (Signal.Monitor p' q' r) pay) ⊎ AskedHere n p q a p' q' r)
+-- one signal is of one monitor, where a name is of the node that it goes to
+same_asked : (p p' : Pid) (g g' : Target) (k r : Reference) (a b : Bool) → IsNameAt (target_node g) g'
+    → ◌≡◌ {A = Item} (Signalled (monitor_signal p g k) a) (Signalled (monitor_signal p' g' r) b) → (p ≡ p') × (g ≡ g') × (k ≡ r)
+same_asked p p' (Target.Pid q) (Target.Pid q') k r a b at e =
+    let x : p ≡ p' = cc in let y : q ≡ q' = cc in let z : k ≡ r = cc in (x, ap Target.Pid y, z)
+same_asked p p' (Target.Name name node) (Target.Name name' node') k r a b at e =
+    let x : p ≡ p' = cc in let y : name ≡ name' = cc in let z : k ≡ r = cc in (x, (λ i. Target.Name (y i) (sym at i)), z)
+same_asked p p' (Target.Pid q) (Target.Name name' node') k r a b at e = cc
+same_asked p p' (Target.Name name node) (Target.Pid q') k r a b at e = cc
+
+-- it has no reason, so its spelling is one
+asked_spelled : (n : Node) (p : Pid) (g : Target) (r : Reference) → spelled n (asked p g r) ≡ Signalled (monitor_signal p g r) false
+asked_spelled n p (Target.Pid q) r = refl
+asked_spelled n p (Target.Name name node) r = refl
+
+-- it sends or keeps one item at most
+abbrev pub IsOne : Node → Answer → Work → Type 0
+IsOne n a o = ((o.node.local ≡ n.local) × (length (sent_in o.effects) ≤ 1))
+    ⊎ ((i : Item) × (o.node.local ≡ n.local ++ i ∷ []) × (sent_in o.effects ≡ [])
+    × ((r : Reference) → is_call r i ≡ true → a ≡ Answer.Reference r))
+
+module _ (n : Node) (p : Pid) (g : Target) where
+  abbrev pub AllAsked : Answer → Work → Type 0
+  AllAsked a o = ((t : TrunkId) (y : Name) (p' : Pid) (g' : Target) (r : Reference) (pay : Bool) → IsNameAt y g'
+      → Contains o.effects (Effect.Sent (Some t) y (Signalled (monitor_signal p' g' r) pay)) → Asked n p g a t y p' g' r)
+      × ((p' : Pid) (g' : Target) (r : Reference) (pay : Bool) → IsNameAt n.mint.name g' → Contains o.node.local (Signalled (monitor_signal p' g' r) pay)
+      → Contains n.local (Signalled (monitor_signal p' g' r) pay) ⊎ AskedHere n p g a p' g' r)
+      × IsOne n a o
 
   only : {f g : Effect Item} → Contains (f ∷ []) g → f ≡ g
   only {f} {g} c = pick (Contains-push_cases [] f g c)
@@ -343,67 +386,87 @@ module _ (n : Node) (p q : Pid) where
       pick (inl k) = absurd (none_within g k)
       pick (inr k) = k
 
-  asked : (count : ℕ) → living n p ≡ true → (b : Bool) → same_name q.node n.mint.name ≡ b → (u : Option TrunkId) → route n q.node ≡ u
-      → AllAsked (Answer.Reference (reference_of n.mint count)) (cond b
-      (keep_local (Signalled (Signal.Monitor p q (reference_of n.mint count)) false)
-      (watch (reference_of n.mint count) (pid_watch p q) (draw kind.Reference (at_work n))))
-      (send_on u q.node (Signalled (Signal.Monitor p q (reference_of n.mint count)) false)
-      (watch (reference_of n.mint count) (pid_watch p q) (draw kind.Reference (at_work n)))))
-  asked count l true e u h = (
-    λ t y p' q' r pay c. let z = only c in cc,
-    λ p' q' r pay c. pick p' q' r pay (Contains-push_cases n.local (Signalled (Signal.Monitor p q (reference_of n.mint count)) false)
-        (Signalled (Signal.Monitor p' q' r) pay) c),
+  is_asked : (count : ℕ) → living n p ≡ true → (b : Bool) → same_name (target_node g) n.mint.name ≡ b → (u : Option TrunkId)
+      → route n (target_node g) ≡ u → AllAsked (Answer.Reference (reference_of n.mint count)) (cond b
+      (keep_local (Signalled (monitor_signal p g (reference_of n.mint count)) false)
+      (watch (reference_of n.mint count) (watch_of p g) (draw kind.Reference (at_work n))))
+      (send_on u (target_node g) (Signalled (monitor_signal p g (reference_of n.mint count)) false)
+      (watch (reference_of n.mint count) (watch_of p g) (draw kind.Reference (at_work n)))))
+  is_asked count l true e u h = (
+    λ t y p' g' r pay at c. let z = only c in cc,
+    λ p' g' r pay at c. pick p' g' r pay at (Contains-push_cases n.local (Signalled (monitor_signal p g (reference_of n.mint count)) false)
+        (Signalled (monitor_signal p' g' r) pay) c),
+    inr (
+      Signalled (monitor_signal p g (reference_of n.mint count)) false,
+      refl,
+      refl,
+      λ r h. ap Answer.Reference (sym (same_reference_true r (reference_of n.mint count) (sym (asked_is r p g (reference_of n.mint count) false) ∙ h))),
+    ),
   )
     where
-      pick : (p' q' : Pid) (r : Reference) (pay : Bool) → Contains n.local (Signalled (Signal.Monitor p' q' r) pay)
-          ⊎ (◌≡◌ {A = Item} (Signalled (Signal.Monitor p q (reference_of n.mint count)) false) (Signalled (Signal.Monitor p' q' r) pay))
-          → Contains n.local (Signalled (Signal.Monitor p' q' r) pay)
-          ⊎ AskedHere n p q (Answer.Reference (reference_of n.mint count)) p' q' r
-      pick p' q' r pay (inl c) = inl c
-      pick p' q' r pay (inr z) = inr (record {
-        owner = cc;
-        target = cc;
-        answer = let k : reference_of n.mint count ≡ r = cc in ap Answer.Reference k;
-        here = l;
-        own = e;
-      })
-  asked count l false e None h = (λ t y p' q' r pay c. absurd (none_within _ c), λ p' q' r pay c. inl c)
-  asked count l false e (Some v) h = (λ t y p' q' r pay c. one t y p' q' r pay (only c), λ p' q' r pay c. inl c)
+      pick : (p' : Pid) (g' : Target) (r : Reference) (pay : Bool) → IsNameAt n.mint.name g'
+          → Contains n.local (Signalled (monitor_signal p' g' r) pay)
+          ⊎ (◌≡◌ {A = Item} (Signalled (monitor_signal p g (reference_of n.mint count)) false) (Signalled (monitor_signal p' g' r) pay))
+          → Contains n.local (Signalled (monitor_signal p' g' r) pay)
+          ⊎ AskedHere n p g (Answer.Reference (reference_of n.mint count)) p' g' r
+      pick p' g' r pay at (inl c) = inl c
+      pick p' g' r pay at (inr z) =
+          let v = same_asked p p' g g' (reference_of n.mint count) r false pay
+          (subst (λ z. IsNameAt z g') (sym (same_name_true (target_node g) n.mint.name e)) at) z in inr (record {
+            owner = v.0;
+            target = v.1;
+            answer = ap Answer.Reference v.2;
+            here = l;
+            own = e;
+          })
+  is_asked count l false e None h = (λ t y p' g' r pay at c. absurd (none_within _ c), λ p' g' r pay at c. inl c, inl (refl, omega arith))
+  is_asked count l false e (Some v) h = (λ t y p' g' r pay at c. one t y p' g' r pay at (only c), λ p' g' r pay at c. inl c, inl (refl, omega arith))
     where
-      one : (t : TrunkId) (y : Name) (p' q' : Pid) (r : Reference) (pay : Bool)
-          → ◌≡◌ {A = Effect Item} (Effect.Sent (Some v) q.node (Signalled (Signal.Monitor p q (reference_of n.mint count)) false))
-          (Effect.Sent (Some t) y (Signalled (Signal.Monitor p' q' r) pay))
-          → Asked n p q (Answer.Reference (reference_of n.mint count)) t y p' q' r
-      one t y p' q' r pay z = record {
-        owner = cc;
-        target = cc;
-        answer = let k : reference_of n.mint count ≡ r = cc in ap Answer.Reference k;
-        to = let k : q.node ≡ y = cc in sym k;
-        here = l;
-        away = e;
-        route = let k : v ≡ t = cc in h ∙ ap Some k;
-      }
+      one : (t : TrunkId) (y : Name) (p' : Pid) (g' : Target) (r : Reference) (pay : Bool) → IsNameAt y g'
+          → ◌≡◌ {A = Effect Item} (Effect.Sent (Some v) (target_node g) (Signalled (monitor_signal p g (reference_of n.mint count)) false))
+          (Effect.Sent (Some t) y (Signalled (monitor_signal p' g' r) pay))
+          → Asked n p g (Answer.Reference (reference_of n.mint count)) t y p' g' r
+      one t y p' g' r pay at z =
+          let k : target_node g ≡ y = cc in
+          let s = same_asked p p' g g' (reference_of n.mint count) r false pay (subst (λ z. IsNameAt z g') (sym k) at) (item z) in record {
+            owner = s.0;
+            target = s.1;
+            answer = ap Answer.Reference s.2;
+            to = sym k;
+            here = l;
+            away = e;
+            route = let k : v ≡ t = cc in h ∙ ap Some k;
+          }
+        where
+          item : {f h : Item} {t u : Option TrunkId} {x y : Name} → ◌≡◌ {A = Effect Item} (Effect.Sent t x f) (Effect.Sent u y h) → f ≡ h
+          item e = cc
 
   without : (f : Effect Item) → ((t : TrunkId) (y : Name) (i : Item) → ◌≡◌ {A = Effect Item} f (Effect.Sent (Some t) y i) → ⊥)
-      → (o : Work) → o.effects ≡ f ∷ [] → o.node.local ≡ n.local → (a : Answer) → AllAsked a o
-  without f none o e d a = (
-    λ t y p' q' r pay c. absurd (none t y (Signalled (Signal.Monitor p' q' r) pay)
-        (only (subst (λ l. Contains l (Effect.Sent (Some t) y (Signalled (Signal.Monitor p' q' r) pay))) e c))),
-    λ p' q' r pay c. inl (subst (λ l. Contains l (Signalled (Signal.Monitor p' q' r) pay)) d c),
+      → (o : Work) → o.effects ≡ f ∷ [] → o.node.local ≡ n.local → sent_in (f ∷ []) ≡ [] → (a : Answer) → AllAsked a o
+  without f none o e d s a = (
+    λ t y p' g' r pay at c. absurd (none t y (Signalled (monitor_signal p' g' r) pay)
+        (only (subst (λ l. Contains l (Effect.Sent (Some t) y (Signalled (monitor_signal p' g' r) pay))) e c))),
+    λ p' g' r pay at c. inl (subst (λ l. Contains l (Signalled (monitor_signal p' g' r) pay)) d c),
+    inl (d, subst (λ (l : List Envelope). length l ≤ 1) (sym (ap sent_in e ∙ s)) (omega arith)),
   )
 
   drawn : living n p ≡ true → (v : Option ℕ) → IfAnswers (with_id v (λ count. Accepts (Answer.Reference (reference_of n.mint count))
-      (monitor (reference_of n.mint count) p (Target.Pid q) (draw kind.Reference (at_work n))))) AllAsked
+      (monitor (reference_of n.mint count) p g (draw kind.Reference (at_work n))))) AllAsked
   drawn l None = tt
-  drawn l (Some count) = go (reaches n q.node)
+  drawn l (Some count) = go (reaches n (target_node g))
     where
-      go : (b : Bool) → AllAsked (Answer.Reference (reference_of n.mint count)) (cond b
-          (post (to_pid q (Signal.Monitor p q (reference_of n.mint count))) (watch (reference_of n.mint count) (pid_watch p q) (draw kind.Reference (at_work n))))
-          (put p (down_term (reference_of n.mint count) (pid q) noconnection) (draw kind.Reference (at_work n))))
-      go true = asked count l (same_name q.node n.mint.name) refl (route n q.node) refl
-      go false = without (Effect.Put p (down_term (reference_of n.mint count) (pid q) noconnection)) (λ t y i e. cc)
-          (put p (down_term (reference_of n.mint count) (pid q) noconnection) (draw kind.Reference (at_work n))) refl refl
-          (Answer.Reference (reference_of n.mint count))
+      r : Reference
+      r = reference_of n.mint count
+
+      o : Work
+      o = watch r (watch_of p g) (draw kind.Reference (at_work n))
+
+      go : (b : Bool) → AllAsked (Answer.Reference r) (cond b (post (asked p g r) o) (put p (down_term r (object g) noconnection) (draw kind.Reference (at_work n))))
+      go true = subst (λ z. AllAsked (Answer.Reference r) (cond (same_name (target_node g) n.mint.name) (keep_local z o)
+          (send_on (route n (target_node g)) (target_node g) z o))) (sym (asked_spelled o.node p g r))
+          (is_asked count l (same_name (target_node g) n.mint.name) refl (route n (target_node g)) refl)
+      go false = without (Effect.Put p (down_term r (object g) noconnection)) (λ t y i e. cc)
+          (put p (down_term r (object g) noconnection) (draw kind.Reference (at_work n))) refl refl refl (Answer.Reference r)
 
   answers_cond : (b : Bool) (k : Outcome) (j : Refusal) → (b ≡ true → IfAnswers k AllAsked) → IfAnswers (cond b k (Refuses j)) AllAsked
   answers_cond true k j h = h refl
@@ -413,7 +476,14 @@ module _ (n : Node) (p q : Pid) where
   answers_not true k j h = tt
   answers_not false k j h = h
 
-  pub call_asks : (names : List Name) (a : Answer) (o : Work) → at_node names n (Call (Command.Monitor p q)) ≡ Accepts a o → AllAsked a o
-  call_asks names a o h = subst (λ z. IfAnswers z AllAsked) h
-      (answers_cond n.up _ Refusal.NodeDown (λ u. answers_cond (living n p) _ Refusal.NoSuchProcess (λ l.
-      answers_not (same_name q.node n.mint.name && is_stranger n q) _ Refusal.Forged (drawn l (id_of n.mint kind.Reference)))))
+pub call_asks : (n : Node) (p : Pid) (g : Target) (names : List Name) (a : Answer) (o : Work)
+    → at_node names n (Call (monitoring p g)) ≡ Accepts a o → AllAsked n p g a o
+call_asks n p (Target.Pid q) names a o h = subst (λ z. IfAnswers z (AllAsked n p (Target.Pid q))) h
+    (answers_cond n p (Target.Pid q) n.up _ Refusal.NodeDown (λ u. answers_cond n p (Target.Pid q) (living n p) _ Refusal.NoSuchProcess (λ l.
+    answers_not n p (Target.Pid q) (same_name q.node n.mint.name && is_stranger n q) _ Refusal.Forged
+    (drawn n p (Target.Pid q) l (id_of n.mint kind.Reference)))))
+call_asks n p (Target.Name name node) names a o h = subst (λ z. IfAnswers z (AllAsked n p (Target.Name name node))) h
+    (answers_cond n p (Target.Name name node) n.up _ Refusal.NodeDown (λ u.
+    answers_cond n p (Target.Name name node) (living n p) _ Refusal.NoSuchProcess (λ l.
+    answers_cond n p (Target.Name name node) (monitors_names n node) _ Refusal.NotOffered (λ f.
+    drawn n p (Target.Name name node) l (id_of n.mint kind.Reference)))))

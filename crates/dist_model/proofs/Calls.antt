@@ -25,7 +25,7 @@ use Rattle.dist_model.specs.Names.{Name, same_name, same_pid}
 use Rattle.dist_model.specs.Naming.{NameMap, name_of, without_holder}
 use Rattle.dist_model.specs.Node.{Life, Living, Node, end_of, is_living_life, living, is_stranger, monitors_names, reaches, traps_life}
 use Rattle.dist_model.specs.Taking.{take_item, take_named}
-use Rattle.dist_model.specs.Work.{Work, at_work, draw, post, post_all, put, set_end, set_life, spelled, to_pid}
+use Rattle.dist_model.specs.Work.{Work, at_work, draw, post, put, set_end, set_life, spelled, to_pid}
 use Rattle.erl_control.specs.declared.signal.Signal.{Signal}
 use Rattle.erl_names.specs.Ids.{pid_of, reference_of}
 use Rattle.erl_names.specs.Minted.{Minted, drawn, id_of, last, risen}

@@ -34,14 +34,14 @@ use Rattle.dist_model.proofs.Steps.{not_never}
 use Rattle.dist_model.proofs.Sweeps.{link_found, losing_unreached}
 use Rattle.dist_model.proofs.Trunks.{Good, has}
 use Rattle.dist_model.proofs.Told.{Called, CalledNow, Course, Drawn, IsFounded, Leaves, Off, OffAfter, Old, Sound, Stays}
-use Rattle.dist_model.specs.Causes.{CauseOf}
+use Rattle.dist_model.proofs.SomeCauses.{CauseIn}
 use Rattle.dist_model.proofs.Lands.{no_more}
 use Rattle.dist_model.proofs.MonitorMoves.{lives_same, node_aside, turns_aside}
 use Rattle.dist_model.specs.Arrivals.{arrive_at, arrive_fresh, from_peer, handshake_in, is_good, on_up, signal_at, take_local, to_own}
 use Rattle.dist_model.specs.Commands.{Accepts, Outcome}
 use Rattle.dist_model.specs.declared.report.Answer.{Answer}
 use Rattle.dist_model.specs.Dialing.{dial, draw_trunk, has_name, next_trunk}
-use Rattle.dist_model.specs.Downs.{Monitored, downs_in, is_answered, is_demonitored, is_sent_message, takes_message, downs_by}
+use Rattle.dist_model.specs.Downs.{downs_in, is_answered, is_demonitored, is_sent_message, takes_message, downs_by}
 use Rattle.erl_handshake.specs.Roles.{send_name}
 use Rattle.dist_model.specs.Handshake.{identity, fault, set_state, with_side, write}
 use Rattle.dist_model.specs.Histories.{History}
@@ -75,18 +75,18 @@ use Rattle.monitor_core.specs.declared.monitor.Watch.{Watch}
 use Rattle.monitor_core.specs.Monitors.{target_node}
 
 -- a message to a process
-abbrev IsSend : Item → Type 0
+abbrev pub IsSend : Item → Type 0
 IsSend i = (p : Pid) × (m : Data) × (pay : Bool) × (i ≡ Signalled (Signal.Send p m) pay)
 
 -- a message to a name
-abbrev IsRegSend : Item → Type 0
+abbrev pub IsRegSend : Item → Type 0
 IsRegSend i = (q : Pid) × (name : Name) × (m : Data) × (pay : Bool) × (i ≡ Signalled (Signal.RegSend q name m) pay)
 
 -- an item that brings no message
-abbrev IsUnsent : Item → Type 0
+abbrev pub IsUnsent : Item → Type 0
 IsUnsent i = is_sent_message (Answer.Took (kind_of i)) ≡ false
 
-sent_or_not : (i : Item) → IsSend i ⊎ (IsRegSend i ⊎ IsUnsent i)
+pub sent_or_not : (i : Item) → IsSend i ⊎ (IsRegSend i ⊎ IsUnsent i)
 sent_or_not (Signalled (Signal.Send p m) pay) = inl (p, m, pay, refl)
 sent_or_not (Signalled (Signal.RegSend q name m) pay) = inr (inl (q, name, m, pay, refl))
 sent_or_not (Handshake (ShakeMsg.SendName c f n)) = inr (inr refl)
@@ -143,7 +143,7 @@ module _ (w : World) (h : History) (x : Name) (n : Node) (hx : node_of w.nodes x
 
     calm_done : (a : Answer) (o : Work) → Calm o → D e xs a o
     calm_done a o k = done w h x n hx gw g e xs a o (λ r. na r (Reported a o.effects)) (λ r. nd r (Reported a o.effects)) k.shaken.truth
-        (turns_aside (record n { local = xs }) (λ r u z. CauseOf h w u.owner u.target z)
+        (turns_aside (record n { local = xs }) (λ r u z. CauseIn h w u.owner u.target z)
         (λ r u. IsAsked (Called h) u.target u.owner r) (λ r u. Off w h r ⊎ (reaches n u.owner.node ≡ false))
         (were w h x n hx gw g) o (counted w h x n hx gw g e xs a o) (record {
           watches = λ r. refl;
@@ -181,9 +181,9 @@ module _ (w : World) (h : History) (x : Name) (n : Node) (hx : node_of w.nodes x
           named = λ q p y m pay j. let c : true ≡ false = sym (ap (λ v. is_sent_message (Answer.Took (kind_of v))) j) ∙ ns in cc;
           nobody = λ p q r pay j l.
               ((dead_now w h x n hx gw g q l (monitor_known p q r pay j), subst (λ v. IsFounded w h v) j fi), λ s. tt);
-          nobody_named = λ p y r pay j. ((inl refl, subst (λ v. IsFounded w h v) j fi), λ s. tt);
+          nobody_named = λ p y r pay j v. ((inl refl, subst (λ v. IsFounded w h v) j fi), λ s. tt);
           joins = λ p q r pay j l. subst (λ v. IsFounded w h v) j fi;
-          joins_named = λ p y r pay q j l. subst (λ v. IsFounded w h v) j fi;
+          joins_named = λ p y r pay q j e l. subst (λ v. IsFounded w h v) j fi;
           drops = λ p q r pay m j c s. inl (subst (λ v. IsFounded w h v) j fi);
           drops_named = λ p y r pay m j c s. inl (subst (λ v. IsFounded w h v) j fi);
           tells = λ p q r z pay j c. old_cause w h p q z (subst (λ v. IsFounded w h v) j fi).0;
@@ -206,7 +206,7 @@ module _ (w : World) (h : History) (x : Name) (n : Node) (hx : node_of w.nodes x
             let o0 = at_work (record n { local = xs }) in
             let o = put p m o0 in
             let lv =
-            lives_same (record n { local = xs }) (λ r u z. CauseOf h w u.owner u.target z)
+            lives_same (record n { local = xs }) (λ r u z. CauseIn h w u.owner u.target z)
             (λ r u. IsAsked (Called h) u.target u.owner r) (λ r u. Off w h r ⊎ (reaches n u.owner.node ≡ false))
             (were w h x n hx gw g) p (delivered (fm.get n.lives p) m) o0 (living_received (fm.get n.lives p) m) in
             done w h x n hx gw g e xs (Answer.Took (kind_of i)) o (λ r. na r (Reported (Answer.Took (kind_of i)) o.effects))
@@ -214,10 +214,10 @@ module _ (w : World) (h : History) (x : Name) (n : Node) (hx : node_of w.nodes x
             (true_put (record n { local = xs }) (Old w h) (Right w h e) (Called h) (Off w h) p m o0 whole.truth)
             (subst (λ b. U w h x n hx gw g e xs (record { node = o.node; effects = cond b (mere o.effects) o.effects }))
             (sym (counts o.effects ∙ is_sent))
-            (turns_aside (record n { local = xs }) (λ r u z. CauseOf h w u.owner u.target z)
+            (turns_aside (record n { local = xs }) (λ r u z. CauseIn h w u.owner u.target z)
             (λ r u. IsAsked (Called h) u.target u.owner r) (λ r u. Off w h r ⊎ (reaches n u.owner.node ≡ false))
             (were w h x n hx gw g) o0 (record o0 { node = o.node })
-            (node_aside (record n { local = xs }) (λ r u z. CauseOf h w u.owner u.target z)
+            (node_aside (record n { local = xs }) (λ r u z. CauseIn h w u.owner u.target z)
             (λ r u. IsAsked (Called h) u.target u.owner r) (λ r u. Off w h r ⊎ (reaches n u.owner.node ≡ false))
             (were w h x n hx gw g) o0 o.node refl refl refl lv refl refl refl refl) whole.core.turns))
             (record { local = whole.home.local; name = whole.home.name }) (ageless n o.node refl)
@@ -369,9 +369,9 @@ module _ (w : World) (h : History) (x : Name) (n : Node) (hx : node_of w.nodes x
         shaken = record {
           truth =
               true_node n (Old w h) (Right w h (Dial x y k)) (Called h) (Off w h) (at_work n) (draw_trunk n) refl refl refl c0.shaken.truth;
-          turns = turns_aside n (λ r u z. CauseOf h w u.owner u.target z) (λ r u. IsAsked (Called h) u.target u.owner r)
+          turns = turns_aside n (λ r u z. CauseIn h w u.owner u.target z) (λ r u. IsAsked (Called h) u.target u.owner r)
               (λ r u. Off w h r ⊎ (reaches n u.owner.node ≡ false)) (were w h x n hx gw g) (at_work n) o
-              (node_aside n (λ r u z. CauseOf h w u.owner u.target z) (λ r u. IsAsked (Called h) u.target u.owner r)
+              (node_aside n (λ r u z. CauseIn h w u.owner u.target z) (λ r u. IsAsked (Called h) u.target u.owner r)
               (λ r u. Off w h r ⊎ (reaches n u.owner.node ≡ false)) (were w h x n hx gw g) (at_work n)
               (draw_trunk n) refl refl refl (λ p. refl) refl refl refl refl) c0.shaken.turns;
           home = record { local = c0.shaken.home.local; name = c0.shaken.home.name };
@@ -422,7 +422,7 @@ module _ (w : World) (h : History) (x : Name) (n : Node) (hx : node_of w.nodes x
           (no_connection w h x n hx gw g e.0.0 e.0.1 ((kn w h x n hx gw g).born e.0.0 root.0) (ap (reaches n) v.1 ∙ far))
 
       tells : (y : Name) → reaches n y ≡ false → (v : Reference × Watch) → (fm.get n.watches v.0 ≡ Some v.1)
-          × (target_node v.1.target ≡ y) → CauseOf h w v.1.owner v.1.target noconnection
+          × (target_node v.1.target ≡ y) → CauseIn h w v.1.owner v.1.target noconnection
       tells y far v f =
           let u = g.watching x n v.0 v.1 hx f.0 in
           unreached_cause w h x n hx gw g v.1.owner v.1.target ((kn w h x n hx gw g).born v.1.owner u.4) (ap (reaches n) f.1 ∙ far)

@@ -23,10 +23,11 @@ use Rattle.dist_model.proofs.Told.{Called, CalledNow, Course, Deed, Downs, Drawn
 use Rattle.dist_model.proofs.MonitorMoves.{Core, Fate, Left, Same, Spent, Turns, core_closed, turns_side, turns_wrote}
 use Rattle.dist_model.proofs.Views.{over}
 use Rattle.dist_model.proofs.Truths.{none_within}
-use Rattle.dist_model.specs.Causes.{CauseOf, HadEnded, HolderEnded, NoConnection, Nobody, NoProcess, TrueCause, Unreached}
+use Rattle.dist_model.proofs.SomeCauses.{CauseIn, NobodyThere, NotReached, SomeoneEnded}
+use Rattle.dist_model.specs.Causes.{HadEnded, NoConnection, NoProcess, TrueCause}
 use Rattle.dist_model.specs.declared.report.Answer.{Answer}
 use Rattle.dist_model.specs.declared.command.Command.{Command}
-use Rattle.dist_model.specs.Downs.{Monitored, downs_by, downs_in, is_answered, is_demonitored, takes_message}
+use Rattle.dist_model.specs.Downs.{downs_by, downs_in, is_answered, is_demonitored, takes_message}
 use Rattle.dist_model.specs.Handshake.{with_side, write}
 use Rattle.dist_model.specs.Histories.{History}
 use Rattle.dist_model.specs.Items.{Item}
@@ -87,11 +88,11 @@ old_cause w h p q z (inl i) = HadEnded i
 old_cause w h p q z (inr i) = let d = i.1 in NoProcess i.0 (ap (λ o. living_at o q) d.1 ∙ (over_parts d.0 q d.2).0)
 
 -- so of a target whose end is told
-pub cause_over : (w : World) (h : History) (p : Pid) (t : Target) (z : Data) → IsOver (Old w h) t z → CauseOf h w p t z
+pub cause_over : (w : World) (h : History) (p : Pid) (t : Target) (z : Data) → IsOver (Old w h) t z → CauseIn h w p t z
 cause_over w h p (Target.Pid q) z c = old_cause w h p q z c
-cause_over w h p (Target.Name name node) z (inl e) = Nobody e
-cause_over w h p (Target.Name name node) z (inr (q, inl c)) = HolderEnded q c
-cause_over w h p (Target.Name name node) z (inr (q, inr c)) = Nobody c.0
+cause_over w h p (Target.Name name node) z (inl e) = NobodyThere e
+cause_over w h p (Target.Name name node) z (inr (q, inl c)) = SomeoneEnded q c
+cause_over w h p (Target.Name name node) z (inr (q, inr c)) = NobodyThere c.0
 
 module _ (w : World) (h : History) (x : Name) (n : Node) (hx : node_of w.nodes x ≡ Some n) (gw : Good w) (g : Sound w h) where
   pub nm : n.mint.name ≡ x
@@ -117,9 +118,9 @@ module _ (w : World) (h : History) (x : Name) (n : Node) (hx : node_of w.nodes x
   no_connection p q v r = let u = unreached p q.node v r in NoConnection refl u.0 u.1
 
   -- of either target
-  pub unreached_cause : (p : Pid) (t : Target) → is_stranger n p ≡ false → reaches n (target_node t) ≡ false → CauseOf h w p t noconnection
+  pub unreached_cause : (p : Pid) (t : Target) → is_stranger n p ≡ false → reaches n (target_node t) ≡ false → CauseIn h w p t noconnection
   unreached_cause p (Target.Pid q) v r = no_connection p q v r
-  unreached_cause p (Target.Name name node) v r = let u = unreached p node v r in Unreached refl u.0 u.1
+  unreached_cause p (Target.Name name node) v r = let u = unreached p node v r in NotReached refl u.0 u.1
 
   pub dead_now : (p : Pid) → living n p ≡ false → is_stranger n p ≡ false → Old w h p noproc
   dead_now p l v = inr (refl, (n, node_here p v, over_of n p l v))
@@ -133,7 +134,7 @@ module _ (w : World) (h : History) (x : Name) (n : Node) (hx : node_of w.nodes x
 
   module _ (e : Event) (xs : List Item) where
     abbrev pub Tells : Reference → Watch → Data → Type 0
-    Tells k u z = CauseOf h w u.owner u.target z
+    Tells k u z = CauseIn h w u.owner u.target z
 
     abbrev pub Joins : Reference → Registration → Type 0
     Joins k u = IsAsked (Called h) u.target u.owner k

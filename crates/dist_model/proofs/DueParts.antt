@@ -23,8 +23,7 @@ use Rattle.dist_model.specs.Monitoring.{demonitor_by, monitor, unwatch, watch}
 use Rattle.dist_model.specs.Names.{Name, same_name, same_pid}
 use Rattle.dist_model.specs.Node.{Node, living, is_stranger, monitors_names, reaches, route, ends_of}
 use Rattle.dist_model.specs.Taking.{take_item}
-use Rattle.dist_model.specs.Work.{Addressed, Work, at_work, draw, keep_local, post, post_all, put, report, send_on, spelled, to_pid}
-use Rattle.erl_control.specs.declared.signal.Signal.{Signal}
+use Rattle.dist_model.specs.Work.{Addressed, Work, at_work, draw, keep_local, post, post_all, put, report, send_on, spelled}
 use Rattle.erl_names.specs.Minted.{id_of}
 use Rattle.erl_names.specs.declared.trunk.TrunkId.{TrunkId}
 use Rattle.erl_term.specs.Data.{Data}
@@ -113,9 +112,9 @@ module _ (n : Node) where
     sent = λ p m pay e. silent o (put p m o) (Effect.Put p m) refl refl refl refl k;
     named = λ q p name m pay e. silent o (put p m o) (Effect.Put p m) refl refl refl refl k;
     nobody = λ p q r pay e l. tt;
-    nobody_named = λ p name r pay e. tt;
+    nobody_named = λ p name r pay e v. tt;
     joins = λ p q r pay e l. tt;
-    joins_named = λ p name r pay q e l. tt;
+    joins_named = λ p name r pay q e f l. tt;
     drops = λ p q r pay m e h s. tt;
     drops_named = λ p name r pay m e h s. tt;
     tells = λ p q r x pay e h. tt;

@@ -12,7 +12,7 @@ use Rattle.dist_model.proofs.Calls.{spawned_at, spawned_stays_born, spawned_stay
 use Rattle.dist_model.proofs.Deeds.{T, U, H, Right, Shaken, Whole, at_pid, begins, counted, deed, drawn_along, kn}
 use Rattle.dist_model.proofs.Deeds.{nm, no_connection, over_of, over_parts, rules, shaken, unreached, unreached_cause, whole_closed}
 use Rattle.dist_model.proofs.Entries.{same_reference_refl, same_reference_true}
-use Rattle.dist_model.proofs.Founded.{EndedBefore, Founded, Nothing, OffNow, asked_founded, back_founded, carried_post}
+use Rattle.dist_model.proofs.Founded.{EndedBefore, Founded, Nothing, asked_founded, back_founded, carried_post}
 use Rattle.dist_model.proofs.Founded.{founded_by, posts_keep, quietly_acts, quietly_post}
 use Rattle.dist_model.proofs.HomeMonitors.{Homed, Says, TargetsIn, back_says, homed_post, targets_by}
 use Rattle.dist_model.proofs.Keys.{same_pid_true}
@@ -28,21 +28,20 @@ use Rattle.dist_model.specs.Calls.{call, spawn_life}
 use Rattle.dist_model.specs.Commands.{Accepts, Outcome, Refuses, with_id}
 use Rattle.dist_model.specs.declared.report.Answer.{Answer}
 use Rattle.dist_model.specs.declared.command.Command.{Command}
-use Rattle.dist_model.specs.Downs.{IsCallOf, Monitored, down_in, downs_in, is_answered, is_demonitored, same_reference, takes_message}
+use Rattle.dist_model.specs.Downs.{IsCallOf, down_in, downs_in, is_answered, is_demonitored, same_reference, takes_message}
 use Rattle.dist_model.specs.Histories.{History}
 use Rattle.dist_model.specs.Items.{Item}
 use Rattle.dist_model.specs.Monitoring.{demonitor_by, monitor, unwatch, watch}
 use Rattle.dist_model.specs.Names.{Name, same_name, same_pid}
 use Rattle.dist_model.specs.Node.{Node, is_living_life, living, is_stranger, monitors_names, reaches, Life, Living}
 use Rattle.dist_model.specs.Sides.{TrunkSide, is_over}
-use Rattle.dist_model.specs.Work.{Work, at_work, delivered, draw, post, post_all, put, spelled, to_pid}
+use Rattle.dist_model.specs.Work.{Work, at_work, delivered, draw, post, put, spelled}
 use Rattle.dist_model.specs.declared.report.Effect.{Effect}
 use Rattle.dist_model.specs.World.{Call, Event, Reported, World, node_of}
-use Rattle.erl_control.specs.declared.signal.Signal.{Signal}
 use Rattle.erl_names.specs.Ids.{pid_of, reference_of}
 use Rattle.erl_names.specs.Minted.{Minted, id_of, last, risen}
 use Rattle.erl_names.specs.declared.trunk.TrunkId.{TrunkId}
-use Rattle.erl_term.specs.Data.{Data, pid}
+use Rattle.erl_term.specs.Data.{Data}
 use Rattle.erl_term.specs.declared.refusal.Refusal.{Refusal}
 use Rattle.erl_term.specs.declared.term.Pid.{Pid}
 use Rattle.erl_term.specs.declared.term.Reference.{Reference}

@@ -174,7 +174,7 @@ carried_write P t y m o h k = record {
 }
 
 -- and what is on its way then
-placed : (P : Item → Type 0) (t : TrunkId) (y : Name) (es : List Envelope) → All (λ v. P v.item) es → All P (at_place t y es)
+pub placed : (P : Item → Type 0) (t : TrunkId) (y : Name) (es : List Envelope) → All (λ v. P v.item) es → All P (at_place t y es)
 placed P t y [] j = All-nil P
 placed P t y (v ∷ es) j = All-append P (cond (same_trunk t v.trunk && same_name y v.target) (v.item ∷ []) []) (at_place t y es)
     (go (same_trunk t v.trunk && same_name y v.target))

@@ -24,13 +24,14 @@ use Rattle.dist_model.proofs.Told.{Begins, Called, Course, Downs, IsFounded, IsN
 use Rattle.dist_model.proofs.Lands.{down}
 use Rattle.dist_model.specs.Arrivals.{arrive_at, arrive_fresh, handshake_in, take_local}
 use Rattle.dist_model.specs.Calls.{call}
-use Rattle.dist_model.specs.Causes.{CauseOf, Reacts, TrueCause}
+use Rattle.dist_model.proofs.SomeCauses.{CauseIn}
+use Rattle.dist_model.specs.Causes.{Reacts, TrueCause}
 use Rattle.dist_model.specs.Commands.{Accepts, Outcome, Refuses}
 use Rattle.dist_model.specs.declared.report.Answer.{Answer}
 use Rattle.dist_model.specs.declared.command.Command.{Command}
 use Rattle.dist_model.specs.Dialing.{dial}
 use Rattle.dist_model.specs.Downs.{Demonitored, Down, Monitored, answers, downs, downs_by, is_answered, is_demonitored}
-use Rattle.dist_model.specs.Fates.{AnsweredOnce, DownOnce, DownToTheOwner, DownsTellTrueCause, ExitsTellTrueCause}
+use Rattle.dist_model.specs.Fates.{AnsweredOnce, DownOnce, DownToTheOwner, ExitsTellTrueCause}
 use Rattle.dist_model.specs.Fates.{ExitsTellTrueCauseWithin, NoDownWhereDemonitored, ReactsForTrueCause}
 use Rattle.dist_model.specs.Histories.{Happening, History, Throughout, told}
 use Rattle.dist_model.specs.Incarnations.{start, stop}
@@ -117,7 +118,7 @@ module _ (w : World) (h : History) (g : Sound w h) (e : Event) (j : Refusal) whe
 pub record After (w : World) (h : History) (e : Event) (s : Stepped) : Type 0 where
   pub sound : Sound s.world ((record { event = e; report = s.report }) ∷ h)
   pub acts : (p q : Pid) (z : Data) → Reacts p q z s.report → Right w h e p q z
-  pub ends : (k : Reference) (d : Down) → Contains (downs_by k e s.report) d → CauseOf h w d.owner d.target d.info
+  pub ends : (k : Reference) (d : Down) → Contains (downs_by k e s.report) d → CauseIn h w d.owner d.target d.info
 
 no_down : (d : Down) → Contains [] d → ⊥
 no_down d c = let lt = c.1 in omega arith
@@ -135,14 +136,14 @@ module _ (w : World) (h : History) (gw : Good w) (g : Sound w h) where
 
   module _ (x : Name) (n : Node) (hx : node_of w.nodes x ≡ Some n) (e : Event) (xs : List Item) where
     told_down : (a : Answer) (o : Work) (k : Reference) (d : Down) → Course w h n x e (Reported a o.effects) o k
-        → Contains (downs_by k e (Reported a o.effects)) d → CauseOf h w d.owner d.target d.info
+        → Contains (downs_by k e (Reported a o.effects)) d → CauseIn h w d.owner d.target d.info
     told_down a o k d (Stays b c i r) m = absurd (no_down d (subst (λ l. Contains l d) c m))
     told_down a o k d (Leaves u b c l ux dn i r) m = absurd (no_down d (subst (λ l. Contains l d) dn m))
     told_down a o k d (Downs u z b c t dn i r) m =
-        subst (λ (v : Down). CauseOf h w v.owner v.target v.info) (one_down (down u z) d (subst (λ l. Contains l d) dn m)) t
+        subst (λ (v : Down). CauseIn h w v.owner v.target v.info) (one_down (down u z) d (subst (λ l. Contains l d) dn m)) t
     told_down a o k d (Begins p q ev i r kx nd dr l (inl c)) m = absurd (no_down d (subst (λ l. Contains l d) c.1 m))
     told_down a o k d (Begins p q ev i r kx nd dr l (inr c)) m =
-        subst (λ (v : Down). CauseOf h w v.owner v.target v.info)
+        subst (λ (v : Down). CauseIn h w v.owner v.target v.info)
         (one_down (down (watch_of p q) c.1) d (subst (λ l. Contains l d) c.3 m)) c.2
     told_down a o k d (Revoked u b c dn i r) m = absurd (no_down d (subst (λ l. Contains l d) dn m))
 
@@ -205,7 +206,7 @@ pub record Tale (w : World) (h : History) : Type 0 where
   pub linked : Linked w
   pub known : Known w h
 
-one_event : (w : World) (h : History) (e : Event) (r : Report) (v : World) → Tale w h → Goes w e r v
+pub one_event : (w : World) (h : History) (e : Event) (r : Report) (v : World) → Tale w h → Goes w e r v
     → Tale v ((record { event = e; report = r }) ∷ h)
 one_event w h e r v t (inl c) = record {
   good = subst Good (sym c.1) (good_step_at w (node_of w.nodes (node_name e)) e refl t.good);
@@ -256,10 +257,13 @@ linked_opening cs y v k u hv i =
     let m = new_is cs cs y v hv in
     absurd (none-some u (sym (fm.get-empty reference_cmp k) ∙ subst (λ (z : Node). fm.get z.watches k ≡ Some u) m.2 i))
 
+pub opens_tale : (cs : List (Name × Setup)) → Tale (opening cs) []
+opens_tale cs = record { good = good_opening cs; sound = sound_opening cs; linked = linked_opening cs; known = known_opening cs }
+
 pub throughout : (Holds : History → World → Type 0) → ((h : History) (w : World) → Tale w h → Holds h w) → Throughout Holds
 throughout Holds f cs es rs w i =
     f (told es rs []) w
-    (tale_runs (opening cs) [] es rs w (record { good = good_opening cs; sound = sound_opening cs; linked = linked_opening cs; known = known_opening cs }) i)
+    (tale_runs (opening cs) [] es rs w (opens_tale cs) i)
 
 -- ---- the claims
 
@@ -289,9 +293,6 @@ down_to_the_owner h w t r d c = All-contains (IsNamed r h) (downs r h) d (t.soun
 
 pub no_down_where_demonitored : (h : History) (w : World) → Tale w h → NoDownWhereDemonitored h w
 no_down_where_demonitored h w t = t.sound.none_after
-
-pub downs_tell_true_cause : (h : History) (w : World) → Tale w h → DownsTellTrueCause h w
-downs_tell_true_cause h w t e r d c = (next w h t.good t.sound e).ends r d c
 
 pub connected_by_cookie : (h : History) (w : World) → Tale w h → ConnectedByCookie h w
 connected_by_cookie h w t = by_cookie h w t.known

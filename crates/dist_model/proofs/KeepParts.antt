@@ -19,12 +19,11 @@ use Rattle.dist_model.specs.Names.{Name, same_pid}
 use Rattle.dist_model.specs.Naming.{NameMap}
 use Rattle.dist_model.specs.Node.{Life, Node, is_living_life, living, monitors_names, reaches}
 use Rattle.dist_model.specs.Taking.{take_item}
-use Rattle.dist_model.specs.Work.{Addressed, Work, at_work, draw, post, post_all, put, report, set_end, set_life, to_pid}
+use Rattle.dist_model.specs.Work.{Addressed, Work, at_work, draw, post, put, report, set_end, set_life}
 use Rattle.dist_model.specs.declared.report.Effect.{Effect}
-use Rattle.erl_control.specs.declared.signal.Signal.{Signal}
 use Rattle.erl_names.specs.Ids.{pid_of, reference_of}
 use Rattle.erl_names.specs.Minted.{id_of}
-use Rattle.erl_term.specs.Data.{Data, pid}
+use Rattle.erl_term.specs.Data.{Data}
 use Rattle.erl_term.specs.declared.refusal.Refusal.{Refusal}
 use Rattle.erl_term.specs.declared.term.Pid.{Pid}
 use Rattle.erl_term.specs.declared.term.Reference.{Reference}
@@ -86,9 +85,9 @@ module _ (X : Work → Type 0) (c : Parts X) where
     sent = λ p m pay e. c.message p m o k;
     named = λ q p name m pay e. c.message p m o k;
     nobody = λ p q r pay e l. tt;
-    nobody_named = λ p name r pay e. tt;
+    nobody_named = λ p name r pay e v. tt;
     joins = λ p q r pay e l. tt;
-    joins_named = λ p name r pay q e l. tt;
+    joins_named = λ p name r pay q e f l. tt;
     drops = λ p q r pay m e l s. tt;
     drops_named = λ p name r pay m e l s. tt;
     tells = λ p q r x pay e l. tt;

@@ -233,7 +233,7 @@ contains_first [] i h = absurd (none-some i h)
 contains_first (j ∷ rest) i h = subst (λ z. Contains (j ∷ rest) z) (same_Some j i h)
     (Contains-append_left (j ∷ []) rest j (Contains-push [] j))
 
-contains_rest : (l : List Item) (i : Item) → Contains (rest_of l) i → Contains l i
+pub contains_rest : (l : List Item) (i : Item) → Contains (rest_of l) i → Contains l i
 contains_rest [] i h = h
 contains_rest (j ∷ rest) i h = Contains-append_right (j ∷ []) rest i h
 

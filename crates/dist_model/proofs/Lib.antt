@@ -58,6 +58,7 @@ pub mod KeepSingle
 pub mod KeepSteady
 pub mod KeepCounted
 pub mod Founded
+pub mod SomeCauses
 pub mod Lands
 pub mod MonitorMoves
 pub mod SideAges
@@ -100,8 +101,12 @@ pub mod Learnt
 pub mod LearntAt
 pub mod Known
 pub mod KnownPeers
+pub mod NamedParts
+pub mod NamedEvents
 pub mod Asks
 pub mod AskedIn
+pub mod ComesOnce
+pub mod NamedEnds
 -- Runs that are computed, step by step.
 pub mod ExampleMaps
 pub mod ExampleWorlds
@@ -111,3 +116,4 @@ pub mod ExampleRestart
 pub mod ExampleWait
 pub mod ExampleCross
 pub mod ExampleLate
+pub mod ExampleName

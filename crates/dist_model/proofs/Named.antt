@@ -21,7 +21,7 @@ use Rattle.dist_model.specs.Runs.{Always, opening}
 use Rattle.dist_model.specs.World.{Event, World, came_of, left, met, node_name, node_of, set_node, step_at}
 use Rattle.erl_handshake.specs.declared.setup.Setup.{Setup}
 
-abbrev AllSteady : World → Type 0
+abbrev pub AllSteady : World → Type 0
 AllSteady w = (x : Name) (n : Node) → node_of w.nodes x ≡ Some n → Steady n
 
 set_steady : (ns : List Node) (x : Name) (n m : Node) → node_of ns x ≡ Some n
@@ -41,11 +41,11 @@ ends w x n e lists (Accepts a o) h g is =
     set_steady w.nodes x n o.node h g (steady_kept w.names n e a o (g x n h) is)
     ((if_accepted (Bearings n e) (at_node w.names n e) a o is (bearings_kept w.names n e)).name)
 
-steps : (w : World) (o : Option Node) (e : Event) → node_of w.nodes (node_name e) ≡ o → AllSteady w → AllSteady ((step_at w o e).world)
+pub steps : (w : World) (o : Option Node) (e : Event) → node_of w.nodes (node_name e) ≡ o → AllSteady w → AllSteady ((step_at w o e).world)
 steps w None e h g = g
 steps w (Some n) e h g = ends w (node_name e) n (met w e) (left w e) (at_node w.names n (met w e)) h g refl
 
-opens : (cs : List (Name × Setup)) → AllSteady (opening cs)
+pub opens : (cs : List (Name × Setup)) → AllSteady (opening cs)
 opens cs x n h = let k = new_is cs cs x n h in subst Steady (sym k.2) (steady_new k.0 k.1)
 
 pub names_are_of_the_living : Always NamesAreOfTheLiving

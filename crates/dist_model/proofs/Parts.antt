@@ -84,6 +84,10 @@ pub record Closed (rules : Rules) (X : Work → Type 0) : Type 0 where
   pub ended : (r : Reference) (m : Watch) (x : Data) (o : Work) → fm.get o.node.watches r ≡ Some m → rules.Tells r m x → X o
       → X (put m.owner (down_term r (object m.target) x) (unwatch r o))
 
+-- there is no such process, or it isn't living
+abbrev pub NoneLives : Work → Option Pid → Type 0
+NoneLives o v = (v ≡ None) ⊎ ((q : Pid) × (v ≡ Some q) × (living o.node q ≡ false))
+
 -- why an item from the node y may be taken
 pub record Reasons (rules : Rules) (X : Work → Type 0) (y : Name) (i : Item) (o : Work) : Type 0 where
   pub gone : (p q : Pid) (pay : Bool) → i ≡ Signalled (Signal.Link q p) pay → living o.node p ≡ false → rules.Says (to_pid q (Signal.Exit p q noproc))
@@ -94,11 +98,11 @@ pub record Reasons (rules : Rules) (X : Work → Type 0) (y : Name) (i : Item) (
   pub nobody : (p q : Pid) (r : Reference) (pay : Bool) → i ≡ Signalled (Signal.Monitor p q r) pay → living o.node q ≡ false
       → rules.Says (to_pid p (Signal.MonitorExit q p r noproc))
   pub nobody_named : (p : Pid) (name : Name) (r : Reference) (pay : Bool) → i ≡ Signalled (Signal.MonitorName p name r) pay
-      → rules.Says (to_pid p (Signal.MonitorNameExit name p r noproc))
+      → NoneLives o (fm.get o.node.names name) → rules.Says (to_pid p (Signal.MonitorNameExit name p r noproc))
   pub joins : (p q : Pid) (r : Reference) (pay : Bool) → i ≡ Signalled (Signal.Monitor p q r) pay → living o.node q ≡ true
       → rules.Joins r (registration_of p q)
   pub joins_named : (p : Pid) (name : Name) (r : Reference) (pay : Bool) (q : Pid) → i ≡ Signalled (Signal.MonitorName p name r) pay
-      → living o.node q ≡ true → rules.Joins r (bound p (Target.Name name o.node.mint.name) q)
+      → fm.get o.node.names name ≡ Some q → living o.node q ≡ true → rules.Joins r (bound p (Target.Name name o.node.mint.name) q)
   pub drops : (p q : Pid) (r : Reference) (pay : Bool) (m : Registration) → i ≡ Signalled (Signal.Demonitor p q r) pay
       → fm.get o.node.registered r ≡ Some m → as_watch m ≡ pid_watch p q → rules.Drops r m
   pub drops_named : (p : Pid) (name : Name) (r : Reference) (pay : Bool) (m : Registration)
@@ -194,12 +198,12 @@ module _ (rules : Rules) (X : Work → Type 0) (c : Closed rules X) where
   named_kept (Some p) m o h k = cond_kept (living o.node p) _ o (λ l. h p) (λ l. k)
 
   -- MONITOR_P is bound to a process, or its end is told
-  bind_kept : (v : Option Pid) (p : Pid) (t : Target) (r : Reference) (o : Work) → rules.Says (told_end t p r noproc)
+  bind_kept : (v : Option Pid) (p : Pid) (t : Target) (r : Reference) (o : Work) → (NoneLives o v → rules.Says (told_end t p r noproc))
       → ((q : Pid) → v ≡ Some q → living o.node q ≡ true → IsBound (bound p t q) × rules.Joins r (bound p t q)) → X o → X (bind v p t r o)
-  bind_kept None p t r o says joins k = c.posted (told_end t p r noproc) o says k
+  bind_kept None p t r o says joins k = c.posted (told_end t p r noproc) o (says (inl refl)) k
   bind_kept (Some q) p t r o says joins k = cond_kept (living o.node q) _ _
       (λ l. let j = joins q refl l in c.registers r (bound p t q) o l j.0 j.1 k)
-      (λ l. c.posted (told_end t p r noproc) o says k)
+      (λ l. c.posted (told_end t p r noproc) o (says (inr (q, refl, l))) k)
 
   pub item_kept : (y : Name) (i : Item) (o : Work) → Reasons rules X y i o → X o → X (take_item y i o)
   item_kept y (Signalled (Signal.Link q p) pay) o h k = take_link_kept p q (Signals LinkSignal.Link) o (λ e. h.gone p q pay refl) (λ x e. cc) k
@@ -220,7 +224,7 @@ module _ (rules : Rules) (X : Work → Type 0) (c : Closed rules X) where
       (λ l. c.posted (to_pid p (Signal.MonitorExit q p r noproc)) o (h.nobody p q r pay refl l) k)
   item_kept y (Signalled (Signal.MonitorName p name r) pay) o h k =
       bind_kept (fm.get o.node.names name) p (Target.Name name o.node.mint.name) r o (h.nobody_named p name r pay refl)
-      (λ q e l. (tt, h.joins_named p name r pay q refl l)) k
+      (λ q e l. (tt, h.joins_named p name r pay q refl e l)) k
   item_kept y (Signalled (Signal.Demonitor p q r) pay) o h k = cond_kept (is_held as_watch o.node.registered r (pid_watch p q)) _ o
       (λ l. let e = held_registration (fm.get o.node.registered r) p (Target.Pid q) l in
       c.unregisters r e.0 o e.1 (h.drops p q r pay e.0 refl e.1 e.2) k) (λ l. k)

@@ -13,7 +13,8 @@ use Rattle.dist_model.proofs.HomeMonitors.{TargetsIn}
 use Rattle.dist_model.proofs.Routes.{node_of_set_other, node_of_set_same}
 use Rattle.dist_model.proofs.Lands.{down}
 use Rattle.dist_model.proofs.Views.{over}
-use Rattle.dist_model.specs.Causes.{CauseOf, HasEnded}
+use Rattle.dist_model.proofs.SomeCauses.{CauseIn}
+use Rattle.dist_model.specs.Causes.{HasEnded}
 use Rattle.dist_model.specs.declared.report.Answer.{Answer}
 use Rattle.dist_model.specs.declared.command.Command.{Command}
 use Rattle.dist_model.specs.Downs.{Demonitored, Down, IsCallOf, Monitored, answers, downs, downs_by, is_answered, is_demonitored}
@@ -132,12 +133,12 @@ pub data Course (w : World) (h : History) (n : Node) (x : Name) (e : Event) (r :
       → u.owner.node ≡ x → downs_by k e r ≡ [] → is_answered k e r ≡ false → is_demonitored k e r ≡ false
       → Course w h n x e r o k
   Downs : (u : Watch) (z : Data) → fm.get n.watches k ≡ Some u → fm.get o.node.watches k ≡ None
-      → CauseOf h w u.owner u.target z → downs_by k e r ≡ down u z ∷ [] → is_answered k e r ≡ false
+      → CauseIn h w u.owner u.target z → downs_by k e r ≡ down u z ∷ [] → is_answered k e r ≡ false
       → is_demonitored k e r ≡ false → Course w h n x e r o k
   Begins : (p : Pid) (t : Target) → IsCallOf p t e → is_answered k e r ≡ true → is_demonitored k e r ≡ false
       → k.node ≡ x → (Drawn n k → ⊥) → Drawn o.node k → living o.node p ≡ true
       → ((fm.get o.node.watches k ≡ Some (watch_of p t))
-      × (downs_by k e r ≡ [])) ⊎ ((fm.get o.node.watches k ≡ fm.get n.watches k) × (z : Data) × CauseOf h w p t z
+      × (downs_by k e r ≡ [])) ⊎ ((fm.get o.node.watches k ≡ fm.get n.watches k) × (z : Data) × CauseIn h w p t z
       × (downs_by k e r ≡ down (watch_of p t) z ∷ [])) → Course w h n x e r o k
   Revoked : (u : Watch) → fm.get n.watches k ≡ Some u → fm.get o.node.watches k ≡ None → downs_by k e r ≡ []
       → is_answered k e r ≡ false → is_demonitored k e r ≡ true → Course w h n x e r o k

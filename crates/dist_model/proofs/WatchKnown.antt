@@ -27,7 +27,6 @@ use Rattle.dist_model.specs.World.{Event, Reported, World, carried, list_to, nod
 use Rattle.erl_names.specs.declared.trunk.TrunkId.{TrunkId}
 use Rattle.erl_term.specs.declared.term.Pid.{Pid}
 use Rattle.erl_term.specs.declared.term.Reference.{Reference}
-use Rattle.monitor_core.specs.declared.monitor.Target.{Target}
 use Rattle.monitor_core.specs.declared.monitor.Watch.{Watch}
 use Rattle.monitor_core.specs.declared.monitor.Registration.{Registration}
 use Rattle.monitor_core.specs.Monitors.{target_node}

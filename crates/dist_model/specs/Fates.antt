@@ -1,4 +1,4 @@
--- What holds of every world and of all that happened before it: the exits of links, and the monitors.
+-- Claims about every world and all that happened before it: the exits of links, and the monitors.
 use Rattle.std.specs.Prelude.{◌≡◌, ◌⊎◌, ◌≤◌, Bool, true, false, Option, None, Some, [], Contains, length}
 use Rattle.std.specs.FinMap as fm
 use Rattle.dist_model.specs.Causes.{CauseOf, Reacts, TrueCause}
@@ -10,6 +10,7 @@ use Rattle.dist_model.specs.Names.{Name}
 use Rattle.dist_model.specs.Node.{Node}
 use Rattle.dist_model.specs.Quiet.{Quiet}
 use Rattle.dist_model.specs.Seen.{end_between, is_living, is_reached, local_list}
+use Rattle.dist_model.specs.Traces.{Trace}
 use Rattle.dist_model.specs.World.{Call, Event, Report, World, list_to, node_of, step}
 use Rattle.erl_control.specs.declared.signal.Signal.{Signal}
 use Rattle.erl_names.specs.declared.trunk.TrunkId.{TrunkId}
@@ -63,13 +64,13 @@ abbrev pub NoDownWhereDemonitored : History → World → Type 0
 NoDownWhereDemonitored history world = (r : Reference) → Demonitored r history → downs r history ≡ []
 
 -- the info of each DOWN that a report tells is true
-abbrev pub DownsRightly : History → World → Event → Report → Type 0
-DownsRightly history world event report = (r : Reference) (down : Down) → Contains (downs_by r event report) down
-    → CauseOf history world down.owner down.target down.info
+abbrev pub DownsRightly : Trace → World → Event → Report → Type 0
+DownsRightly trace world event report = (r : Reference) (down : Down) → Contains (downs_by r event report) down
+    → CauseOf trace world r down.owner down.target down.info
 
 -- so with whatever comes next
-abbrev pub DownsTellTrueCause : History → World → Type 0
-DownsTellTrueCause history world = (event : Event) → DownsRightly history world event ((step world event).report)
+abbrev pub DownsTellTrueCause : Trace → World → Type 0
+DownsTellTrueCause trace world = (event : Event) → DownsRightly trace world event ((step world event).report)
 
 abbrev pub registered_at : Option Node → Reference → Option Registration
 registered_at None r = None

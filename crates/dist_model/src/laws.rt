@@ -52,7 +52,7 @@ ghost use Rattle.dist_model.specs.Causes.{Reacts};
 ghost use Rattle.dist_model.specs.Fates.{ReactsRightly, DownsRightly, ReactsForTrueCause, ExitsTellTrueCause, ExitsTellTrueCauseWithin, AnsweredOnce, DownOnce, DownToTheOwner, NoDownWhereDemonitored, DownsTellTrueCause, DownOrRegistered};
 ghost use Rattle.dist_model.specs.Due.{DueFirst};
 ghost use Rattle.dist_model.specs.Cookies.{ChallengesAreDrawn, ConnectedByCookie, OneChallenge, StrangersStayApart};
-ghost use Rattle.dist_model.specs.Traces.{MonitorsAreTakenAsCalled, MonitorsKnowTheirNode, MonitorsKnowTheirOwnNode, ThroughoutTraced};
+ghost use Rattle.dist_model.specs.Traces.{MonitorsAreTakenAsCalled, MonitorsComeOnce, MonitorsKnowTheirNode, MonitorsKnowTheirOwnNode, ThroughoutTraced, traced};
 ghost use Rattle.dist_model.specs.Safety.{Safe};
 
 /// Proves agreement: two living processes both hold their link active, or neither does, once
@@ -141,15 +141,17 @@ pub fn peers_are_known()
     ensures lasting { Always KnownForGood }
 {}
 
-/// Proves that a MONITOR_P reaches the incarnation that its caller's node knew. Take a MONITOR_P in
-/// flight to a node whose side is not gone. When its owner called Monitor, the owner's node knew
-/// the target's node by the creation and flags that it still has. The same holds within one node, and for
-/// each MONITOR_P at the moment of its delivery. (ERTS User's Guide, Distribution Protocol,
+/// Proves that a MONITOR_P, of a pid or of a name, reaches the incarnation that its caller's node
+/// knew. Take a MONITOR_P in flight to a node whose side is not gone. When its owner called for the
+/// monitor, the owner's node knew the target's node by the creation and flags that it still has.
+/// The same holds within one node, and for each MONITOR_P at the moment of its delivery. At most
+/// one MONITOR_P of a reference is ever delivered. (ERTS User's Guide, Distribution Protocol,
 /// Distribution Handshake; Reference Manual, Processes, Monitors.)
 pub fn monitors_know_their_node()
     ensures travelling { ThroughoutTraced MonitorsKnowTheirNode }
     ensures within { ThroughoutTraced MonitorsKnowTheirOwnNode }
     ensures taken { ThroughoutTraced MonitorsAreTakenAsCalled }
+    ensures once { ThroughoutTraced MonitorsComeOnce }
 {}
 
 /// Proves that each signal in flight, on a trunk or within a node, is one that erl_control can
@@ -172,15 +174,17 @@ pub fn reactions()
 
 /// Proves the promises of monitors. A reference answers at most one Monitor call. At most one DOWN
 /// carries it: to the process that made the call, for the incarnation that the call named, with a
-/// true reason. No DOWN comes once Demonitor succeeded. Otherwise, while nothing is in flight
-/// between a living owner and its target, the DOWN was delivered, or the target is alive and
-/// registered. (Reference Manual, Processes, Monitors.)
+/// true reason. A monitor of a name tells of the process that had the name as MONITOR_P came,
+/// whoever has it later, or `noproc` where none had it, or `noconnection`. No DOWN comes once
+/// Demonitor succeeded. Otherwise, while nothing is in flight between a living owner and its target
+/// process, the DOWN was delivered, or the target is alive and registered. (Reference Manual,
+/// Processes, Monitors.)
 pub fn monitors()
     ensures answered { Throughout AnsweredOnce }
     ensures once { Throughout DownOnce }
     ensures owner { Throughout DownToTheOwner }
     ensures demonitored { Throughout NoDownWhereDemonitored }
-    ensures cause { Throughout DownsTellTrueCause }
+    ensures cause { ThroughoutTraced DownsTellTrueCause }
     ensures quiet { Throughout DownOrRegistered }
 {}
 
@@ -188,7 +192,7 @@ pub fn monitors()
 /// monitors, one trunk, the cookie, and creations. It holds at each moment of whatever happens,
 /// from any opening world, with or without memory.
 pub fn every_run_is_safe()
-    ensures safe { Throughout Safe }
+    ensures safe { ThroughoutTraced Safe }
 {}
 
 /// Proves each report of a run right. The events before it lead to a world. Each exit of a link or
@@ -199,7 +203,8 @@ pub fn every_report_is_safe()
         (earlier later : List Report) (report : Report) (world : World) →
         length before ≡ length earlier → Runs (opening nodes) (before ++ event ∷ behind) (earlier ++ report ∷ later) world →
         (now : World) × Runs (opening nodes) before earlier now ×
-        ReactsRightly (told before earlier []) now event report × DownsRightly (told before earlier []) now event report }
+        ReactsRightly (told before earlier []) now event report ×
+        DownsRightly (traced (opening nodes) before earlier []) now event report }
 {}
 
 /// Proves that `is_quiet` decides `Quiet`.
@@ -330,6 +335,15 @@ pub fn late_down()
         let w = run (schedule.demonitored_after_the_end reason) (schedule.two_nodes cookie) in
         (step w (Local schedule.first)).report ≡
         Reported (Answer.Took Kind.MonitorExit) [] }
+{}
+
+/// Shows a name that is passed on: a process gives up the name by which it is monitored, another
+/// registers and ends, and then the former ends. One DOWN is put, with the reason of the former.
+/// (Reference Manual, Processes, Monitors and Registered Processes.)
+pub fn name_is_passed_on()
+    ensures tells { (cookie : List ℕ) (reason other : Data) → fits reason ≡ true → fits other ≡ true →
+        downs schedule.reference (history (schedule.name_passed_on reason other ++ Local schedule.first ∷ []) (schedule.two_nodes cookie)) ≡
+        (record { owner = schedule.here; target = Target.Name schedule.service schedule.first; info = reason }) ∷ [] }
 {}
 
 /// Shows two crossing dials: the attempt of the node with the greater name comes up, and the other

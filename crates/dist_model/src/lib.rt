@@ -18,10 +18,10 @@ pub use laws::{
     connection_comes_again, dead_partner, dial_waits, dials_cross, downs_are_told, due_first,
     event_is_local, events_run, every_report_is_safe, every_run_is_safe, exit_comes, late_down,
     late_exit, link_comes_about, link_is_taken_back, links_need_a_connection, living_means,
-    moments, monitor_tells, monitors, monitors_know_their_node, names_are_of_the_living,
-    news_is_told, no_link_to_the_dead, node_keeps_its_bearings, nodes_stay_steady, one_trunk,
-    order_is_kept, own_trunks_are_counted, peers_are_known, pending, quiet_test, reactions,
-    refused_changes_nothing, restart_tells, travelling_signals_fit,
+    moments, monitor_tells, monitors, monitors_know_their_node, name_is_passed_on,
+    names_are_of_the_living, news_is_told, no_link_to_the_dead, node_keeps_its_bearings,
+    nodes_stay_steady, one_trunk, order_is_kept, own_trunks_are_counted, peers_are_known, pending,
+    quiet_test, reactions, refused_changes_nothing, restart_tells, travelling_signals_fit,
 };
 pub use links::Links;
 pub use report::{Answer, Effect, Kind, Report, Swept};

@@ -1,10 +1,10 @@
 //! Laws of the definitions. Each function does nothing: its contract is the law.
 
 ghost use Rattle.std.specs.Prelude.{List, ℕ, Bool, []};
-ghost use Rattle.dist_model.specs.Histories.{told};
 ghost use Rattle.dist_model.specs.Names.{Name};
 ghost use Rattle.dist_model.specs.Runs.{Runs, opening};
 ghost use Rattle.dist_model.specs.Safety.{Safe};
+ghost use Rattle.dist_model.specs.Traces.{traced};
 ghost use Rattle.dist_model.specs.World.{Event, Report};
 ghost use Rattle.erl_handshake.specs.declared.setup.Setup.{Setup};
 ghost use Rattle.script_core.specs.Script.{script};
@@ -18,7 +18,7 @@ use script_session::events_lead_to_every_line;
 pub fn every_script()
     ensures safe { (trace : Bool) (seed : ℕ) (input : List ℕ) → let world = (script trace seed input).state.stage.world in
         (nodes : List (Name × Setup)) × (events : List Event) × (reports : List Report) ×
-        Runs (opening nodes) events reports world × Safe (told events reports []) world }
+        Runs (opening nodes) events reports world × Safe (traced (opening nodes) events reports []) world }
 {
     every_run_is_safe();
     events_lead_to_every_line();

@@ -4,12 +4,13 @@ use Rattle.std.proofs.lemmas.List.{map-append}
 use Rattle.dist_model.proofs.Run.{moments}
 use Rattle.dist_model.specs.Commands.{Accepts, Outcome, Refuses}
 use Rattle.dist_model.specs.Fates.{DownsRightly, ReactsRightly}
-use Rattle.dist_model.specs.Histories.{Throughout, told}
+use Rattle.dist_model.specs.Histories.{told}
 use Rattle.dist_model.specs.Names.{Name}
 use Rattle.dist_model.specs.Node.{Node}
 use Rattle.dist_model.specs.NodeEvents.{at_node}
 use Rattle.dist_model.specs.Runs.{Goes, Runs, opening}
 use Rattle.dist_model.specs.Safety.{Safe}
+use Rattle.dist_model.specs.Traces.{ThroughoutTraced, traced}
 use Rattle.dist_model.specs.World as model
 use Rattle.dist_model.specs.World.{came_of, left, met, node_name, node_of, step_at}
 use Rattle.world_core.specs.Ran.{Came, Ran, RanSafely, TellAll, WasRight, WasSafe, event_in, events_in}
@@ -107,7 +108,7 @@ TellsRightly = (nodes : List (Name × Setup)) (before behind : List model.Event)
     (earlier later : List model.Report) (report : model.Report) (world : model.World)
     → length before ≡ length earlier → Runs (opening nodes) (before ++ event ∷ behind) (earlier ++ report ∷ later) world
     → (now : model.World) × Runs (opening nodes) before earlier now × ReactsRightly (told before earlier []) now event report
-    × DownsRightly (told before earlier []) now event report
+    × DownsRightly (traced (opening nodes) before earlier []) now event report
 
 was_right : TellsRightly → (nodes : _) (before behind : List model.Event) (event : model.Event) (reports : List model.Report)
     (next : model.World) → Runs (opening nodes) (before ++ event ∷ behind) reports next → WasRight (opening nodes) before event reports
@@ -132,7 +133,7 @@ was_right rightly nodes before behind event reports next h =
           downs = right.3;
         }
 
-module _ (safe : Throughout Safe) (rightly : TellsRightly) where
+module _ (safe : ThroughoutTraced Safe) (rightly : TellsRightly) where
   was_safe : (nodes : _) (before behind : List model.Event) (reports : List model.Report) (next : model.World)
       → Runs (opening nodes) (before ++ behind) reports next
       → WasSafe (opening nodes) before reports

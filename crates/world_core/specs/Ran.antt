@@ -5,6 +5,7 @@ use Rattle.dist_model.specs.Histories.{told}
 use Rattle.dist_model.specs.Names.{Name}
 use Rattle.dist_model.specs.Runs.{Goes, Runs}
 use Rattle.dist_model.specs.Safety.{Safe}
+use Rattle.dist_model.specs.Traces.{traced}
 use Rattle.dist_model.specs.World as model
 use Rattle.node_core.specs.NodeEvents.{event_at}
 use Rattle.node_core.specs.Told.{Answered, Tells}
@@ -47,7 +48,7 @@ pub record WasSafe (m : model.World) (before : List model.Event) (reports : List
   pub parts : reports ≡ earlier ++ later
   pub now : model.World
   pub runs : Runs m before earlier now
-  pub safe : Safe (told before earlier []) now
+  pub safe : Safe (traced m before earlier []) now
 
 -- the report of the event behind `before` is right: it tells of an exit of a link only to a process that held this link active, or that
 -- links in this very event to a node that isn't reached, and of an exit or a DOWN only with a reason that is true in the world before it
@@ -59,12 +60,12 @@ pub record WasRight (m : model.World) (before : List model.Event) (event : model
   pub now : model.World
   pub runs : Runs m before earlier now
   pub reacts : ReactsRightly (told before earlier []) now event report
-  pub downs : DownsRightly (told before earlier []) now event report
+  pub downs : DownsRightly (traced m before earlier []) now event report
 
 -- from an opening world: Safe holds at the end and before each event, and each report is right
 pub record RanSafely (new : World) (m : model.World) (events : List model.Event) (answers : List Answered) : Type 0 where
   pub ran : Ran new m events answers
-  pub at_the_end : Safe (told events ran.reports []) ran.next
+  pub at_the_end : Safe (traced m events ran.reports []) ran.next
   pub before_each : (before behind : List model.Event) → events ≡ before ++ behind → WasSafe m before ran.reports
   pub each_report : (before behind : List model.Event) (event : model.Event) → events ≡ before ++ event ∷ behind
       → WasRight m before event ran.reports
