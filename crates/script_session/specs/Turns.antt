@@ -7,7 +7,9 @@ use Rattle.dist_model.specs.Losses.{any_side}
 use Rattle.dist_model.specs.Node.{Node}
 use Rattle.dist_model.specs.Sides.{is_losing}
 use Rattle.dist_model.specs.World.{Arrive, Event, Local, Sweep, World, first_of}
+use Rattle.node_core.specs.declared.node_event.NodeEvent.{NodeEvent}
 use Rattle.script_session.specs.Stage.{Scene, Stage, after, says, sents_of}
+use Rattle.script_session.specs.declared.turn.Turn.{Turn}
 use Rattle.script_texts.specs.Texts.{settled_text}
 use Rattle.world_core.specs.Coming.{next_arrival}
 
@@ -35,6 +37,12 @@ goes_on event stage rest =
 abbrev pub takes_turn : Option Event → Stage → (Stage → Scene) → Scene
 takes_turn None stage rest = says (settled_text true) stage
 takes_turn (Some event) stage rest = goes_on event stage rest
+
+-- the event of a turn in code
+abbrev pub event_of : (word : ℕ) → Turn → NodeEvent
+event_of word Turn.Local = NodeEvent.Local
+event_of word Turn.Sweep = NodeEvent.Sweep
+event_of word (Turn.Arrive trunk) = NodeEvent.Arrive trunk word
 
 -- at most so many turns
 unfoldable pub settles : ℕ → Stage → Scene

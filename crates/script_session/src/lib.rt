@@ -16,6 +16,7 @@ mod showing;
 mod stage;
 mod telling;
 mod touching;
+mod turn;
 
 pub use connections::Live;
 pub use laws::events_lead_to_every_line;

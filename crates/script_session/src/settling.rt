@@ -5,12 +5,13 @@ ghost use Rattle.node_core.specs.Model.{model_of};
 ghost use Rattle.script_session.specs.Stage.{Stage as TheStage};
 ghost use Rattle.script_session.specs.Stands.{IsStage, Plays};
 ghost use Rattle.script_session.specs.Touched.{AreIdle, Turned};
-ghost use Rattle.script_session.specs.Turns.{first_turn, settles, turn, turn_at};
+ghost use Rattle.script_session.specs.Turns.{event_of, first_turn, settles, turn, turn_at};
 ghost use Rattle.script_session.specs.declared.made.Made.{Made};
 ghost use Rattle.node_core.specs.NodeEvents.{event_at};
 
 use crate::stage::Stage;
 use crate::touching::count_untouched;
+use crate::turn::Turn;
 use erl_term::Atom;
 use script_texts::put_settled;
 use std::alloc::{AllocError, Global};
@@ -21,36 +22,35 @@ const MOST_TURNS: u32 = 1_000_000;
 
 impl Stage {
     // Returns the event that may happen at a node, if one may.
-    fn turn_at(&self, node: &Node) -> Result<Option<NodeEvent>, AllocError>
+    fn turn_at(&self, node: &Node) -> Result<Option<Turn>, AllocError>
         ensures { (it : TheStage) → IsStage self.now it →
-            IfOk result (λ event. option_map (event_at (model_of node.now).mint.name) event ≡ turn_at it.world it.word (model_of node.now)) }
+            IfOk result (λ next. option_map (λ next. event_at (model_of node.now).mint.name (event_of it.word next)) next
+            ≡ turn_at it.world it.word (model_of node.now)) }
     {
         if !node.is_up() {
             return Ok(None);
         }
         if node.has_local() {
-            return Ok(Some(NodeEvent::Local));
+            return Ok(Some(Turn::Local));
         }
         if node.is_losing() {
-            return Ok(Some(NodeEvent::Sweep));
+            return Ok(Some(Turn::Sweep));
         }
         match self.world.next_arrival(node, None) {
-            Some(trunk) => Ok(Some(NodeEvent::Arrive {
-                trunk: trunk.clone()?,
-                word: self.word,
-            })),
+            Some(trunk) => Ok(Some(Turn::Arrive(trunk.clone()?))),
             None => Ok(None),
         }
     }
 
     // Returns the event that may happen at the first of some nodes at which one may.
-    fn first_turn(&self, nodes: &[Node]) -> Result<Option<(Atom, NodeEvent)>, AllocError>
+    fn first_turn(&self, nodes: &[Node]) -> Result<Option<(Atom, Turn)>, AllocError>
         ensures { (it : TheStage) → IsStage self.now it →
-            IfOk result (λ found. option_map (λ next. event_at next.0 next.1) found ≡ first_turn it.world it.word (map model_of nodes.now)) }
+            IfOk result (λ found. option_map (λ next. event_at next.0 (event_of it.word next.1)) found
+            ≡ first_turn it.world it.word (map model_of nodes.now)) }
     {
         for node in nodes {
-            if let Some(event) = self.turn_at(node)? {
-                return Ok(Some((node.name().atom().clone()?, event)));
+            if let Some(next) = self.turn_at(node)? {
+                return Ok(Some((node.name().atom().clone()?, next)));
             }
         }
         Ok(None)
@@ -58,10 +58,10 @@ impl Stage {
 
     // Returns the event that may happen at the first node at which one may. Nothing may happen at the first
     // `idle` nodes.
-    fn turn(&self, idle: usize) -> Result<Option<(Atom, NodeEvent)>, AllocError>
+    fn turn(&self, idle: usize) -> Result<Option<(Atom, Turn)>, AllocError>
         requires { idle ≤ vec_len self.now.world.nodes }
         ensures { (it : TheStage) → IsStage self.now it → AreIdle it idle →
-            IfOk result (λ found. option_map (λ next. event_at next.0 next.1) found ≡ turn it) }
+            IfOk result (λ found. option_map (λ next. event_at next.0 (event_of it.word next.1)) found ≡ turn it) }
     {
         let nodes = self.world.nodes();
         self.first_turn(&nodes[idle..])
@@ -74,9 +74,9 @@ impl Stage {
             IfOk result (λ settled. settled ≡ not (is_some (turn it))) }
     {
         match self.turn(idle)? {
-            Some((node, event)) => {
+            Some((node, next)) => {
                 drop(node);
-                drop(event);
+                drop(next);
                 Ok(false)
             }
             None => Ok(true),
@@ -117,7 +117,10 @@ impl Stage {
         let mut idle = 0;
         while left > 0 {
             match self.turn(idle)? {
-                Some((node, event)) => idle = self.take_turn(alloc, &node, event, out)?,
+                Some((node, next)) => {
+                    let event = next.event(self.word);
+                    idle = self.take_turn(alloc, &node, event, out)?;
+                }
                 None => return put_settled(out, true),
             }
             left -= 1;

@@ -1,4 +1,4 @@
-//! Tests of scripts whose nodes have threads of their own: of each it tells whether it holds.
+//! Tests of scripts whose nodes have threads of their own. It tells of each if it holds.
 #![tactic(auto)]
 
 mod running;
@@ -9,20 +9,21 @@ use script_core::Machine;
 use std::alloc::Global;
 use std::process::ExitCode;
 use stories::{
-    ends_the_threads, has_options, is_silent, is_traced, prints_as_ever, tells_bad_lines,
-    tells_missing,
+    ends_the_threads, has_options, is_silent, is_traced, names_print_as_ever, prints_as_ever,
+    tells_bad_lines, tells_missing,
 };
 
-/// Tells whether a test holds, and answers that.
+/// Tells if a test holds, and returns that.
 fn tell<R: Print>(rt: &R, name: &str, holds: bool) -> Result<bool> {
     let word = if holds { "holds" } else { "DOESN'T HOLD" };
     println!(rt; "{name}: {word}")?;
     Ok(holds)
 }
 
-/// Whether all of them hold.
+/// Tells of all tests, and returns true if all hold.
 fn tell_all<R: Machine + Print>(rt: &R, alloc: Global) -> Result<bool> {
     let mut holds = prints_as_ever(rt, alloc)?;
+    holds = names_print_as_ever(rt, alloc)? && holds;
     holds = tell(
         rt,
         "a script that has named no node isn't said to merge",

@@ -1,4 +1,4 @@
-//! What scripts at nodes in threads come to.
+//! The output of scripts at nodes in threads.
 
 use crate::running::{PLAIN, TRACED, cut_short, plain, threaded};
 use crate::tell;
@@ -6,8 +6,8 @@ use anyhow::Result;
 use script_core::{Form, Machine, Outcome, Reason, read_options};
 use std::alloc::{AllocError, Global};
 
-/// Stories in which nothing depends on who is first: what each is about, and its script.
-const STORIES: [(&str, &str); 11] = [
+/// Stories in which nothing depends on the order of the threads, each with its subject and its script.
+const STORIES: [(&str, &str); 9] = [
     (
         "a link is made and taken back",
         "node a@h c\nnode b@h c\nspawn a@h p\nspawn b@h q\ndial a@h b@h\nsettle\nlink p q\nsettle\nends p q\nlinks p\nlinks q\nunlink q p\nsettle\nends p q\nshow\n",
@@ -41,6 +41,14 @@ const STORIES: [(&str, &str); 11] = [
         "node a@h secret\nnode b@h other\ndial a@h b@h\nsettle\nroute a@h b@h\nroute b@h a@h\ndial a@h b@h\nlose a@h b@h\nsettle\ndial a@h b@h\nsettle\nlose b@h a@h\n",
     ),
     (
+        "what isn't there is refused",
+        "node a@h c\nspawn a@h p\nspawn b@h q\ndial b@h a@h\ndial a@h b@h\ndial a@h a@h\nroute a@h b@h\nroute b@h a@h\nlose a@h b@h\nlose b@h a@h\ncut b@h a@h\nstop b@h\nstart a@h\nlink p p\nlinks p\nunlink p p\ndie p $p\nsettle\nalive p\nsend p p again\nends p p\nsettle\nshow\n",
+    ),
+];
+
+/// The same about registered names.
+const NAMES: [(&str, &str); 2] = [
+    (
         "messages come to registered names",
         "node a@h c\nnode b@h c\nspawn a@h p\nspawn b@h q\nregister q srv\nsendname p b@h srv early\nsettle\ndial a@h b@h\nsettle\nsendname p b@h srv one\nsendname p b@h srv {two,$p}\nsendname p b@h nobody three\nsettle\nsendname q b@h srv four\nsettle\nshow\nreceive q\ndie q boom\nsettle\nwhereis b@h srv\nsendname p b@h srv late\nsettle\nspawn b@h r\nregister r srv\nsendname p b@h srv five\nsettle\nreceive r\nreceive r\n",
     ),
@@ -48,13 +56,9 @@ const STORIES: [(&str, &str); 11] = [
         "a monitor by name tells of the process that had it",
         "node a@h c\nnode b@h c\nnode c@h c 2\nspawn a@h p\nspawn b@h q\nspawn b@h r\nregister q srv\nmonitorname p b@h srv early\nreceive p\ndial a@h b@h\nsettle\nmonitorname p b@h srv m\nsettle\nunregister q\nregister r srv\ndie r boom\nsettle\nreceive p\ndie q bang\nsettle\nreceive p\nmonitorname p b@h srv n\nsettle\nreceive p\ndemonitor p n\ndial a@h c@h\nsettle\nmonitorname p c@h srv x\nmonitorname p a@h srv x\nsettle\nreceive p\n",
     ),
-    (
-        "what isn't there is refused",
-        "node a@h c\nspawn a@h p\nspawn b@h q\ndial b@h a@h\ndial a@h b@h\ndial a@h a@h\nroute a@h b@h\nroute b@h a@h\nlose a@h b@h\nlose b@h a@h\ncut b@h a@h\nstop b@h\nstart a@h\nlink p p\nlinks p\nunlink p p\ndie p $p\nsettle\nalive p\nsend p p again\nends p p\nsettle\nshow\n",
-    ),
 ];
 
-/// Whether a script prints at nodes in threads what it prints without, and then that they have merged.
+/// Returns true if a script prints the same at nodes in threads as without them, and then `merged`.
 fn is_as_ever<R: Machine>(rt: &R, alloc: Global, script: &str) -> bool {
     let wanted = plain(alloc, script.as_bytes());
     let found = threaded(rt, alloc, script.as_bytes(), &PLAIN);
@@ -64,16 +68,30 @@ fn is_as_ever<R: Machine>(rt: &R, alloc: Global, script: &str) -> bool {
         && merged == Some(wanted.printed.as_slice())
 }
 
-/// Tells of each story whether that is so, and answers whether it is of all of them.
-pub fn prints_as_ever<R: Machine + Print>(rt: &R, alloc: Global) -> Result<bool> {
+// Tells of each story if that holds, and returns true if it holds of all.
+fn print_as_ever<R: Machine + Print>(
+    rt: &R,
+    alloc: Global,
+    stories: &[(&str, &str)],
+) -> Result<bool> {
     let mut holds = true;
-    for (name, script) in STORIES {
+    for (name, script) in stories {
         holds = tell(rt, name, is_as_ever(rt, alloc, script))? && holds;
     }
     Ok(holds)
 }
 
-/// Scripts, and what they print at nodes in threads.
+/// Tells of each story if that holds, and returns true if it holds of all.
+pub fn prints_as_ever<R: Machine + Print>(rt: &R, alloc: Global) -> Result<bool> {
+    print_as_ever(rt, alloc, &STORIES)
+}
+
+/// Tells the same of the stories about registered names.
+pub fn names_print_as_ever<R: Machine + Print>(rt: &R, alloc: Global) -> Result<bool> {
+    print_as_ever(rt, alloc, &NAMES)
+}
+
+/// Scripts, and their output at nodes in threads.
 const SILENT: [(&str, &str); 4] = [
     ("", ""),
     ("# nothing\n\n", ""),
@@ -89,28 +107,28 @@ fn prints<R: Machine>(rt: &R, alloc: Global, script: &str, wanted: &str) -> bool
     found.outcome == Outcome::Ran && found.printed.as_slice() == wanted.as_bytes()
 }
 
-/// Whether nothing is said to have merged where a script has named no node.
+/// Returns true if no script that names no node prints `merged`.
 pub fn is_silent<R: Machine>(rt: &R, alloc: Global) -> bool {
     SILENT
         .iter()
         .all(|(script, wanted)| prints(rt, alloc, script, wanted))
 }
 
-/// A handshake in which one node is at work at a time, a message, and what all that prints. The challenge
-/// of the node that dials is the seed, and so is the first of the other node.
+/// A handshake in which one node is at work at a time, a link, and the output. The challenge of the node
+/// that dials is the seed, and so is the first of the other node.
 const TRACE: (&str, &str) = (
     "node a@h c\nnode b@h c\nspawn a@h p\nspawn b@h q\ndial a@h b@h\nsettle\nlink p q\nsettle\nends p q\n",
     "up a@h 1\nup b@h 1\n<a@h.1.0.1>\n<b@h.1.0.1>\ntrunk a@h/1\nsettled\ndone\nsettled\nends active active\nsent a@h b@h 00124E000000040345012C000000010003614068\nsent b@h a@h 0003736F6B\nsent b@h a@h 00164E000000040345012CFFFFFFFF000000010003624068\nsent a@h b@h 001572FFFFFFFFB6B9428EF079FC89EA04BB26BBF1A0DA\nsent b@h a@h 001161B6B9428EF079FC89EA04BB26BBF1A0DA\nsent a@h b@h 0000002A708368036101587703614068000000010000000000000001587703624068000000010000000000000001\nmerged\n",
 );
 
-/// Whether the frames are printed at the end, in the order in which they were sent.
+/// Returns true if the frames are printed at the end, in the order in which they were sent.
 pub fn is_traced<R: Machine>(rt: &R, alloc: Global) -> bool {
     let (script, wanted) = TRACE;
     let found = threaded(rt, alloc, script.as_bytes(), &TRACED);
     found.outcome == Outcome::Ran && found.printed.as_slice() == wanted.as_bytes()
 }
 
-/// Lines with commands that aren't there, and how what is said of them begins.
+/// Lines with commands that threads don't have, each with the beginning of its text.
 const MISSING: [(&str, &str); 7] = [
     ("pair", "'pair'; "),
     ("pair of nodes", "'pair'; "),
@@ -148,12 +166,12 @@ fn is_missing<R: Machine>(
     )
 }
 
-/// Whether these commands are unknown, and what to do is said.
+/// Returns true if these commands are unknown, and their texts tell a remedy.
 pub fn tells_missing<R: Machine>(rt: &R, alloc: Global) -> bool {
     MISSING.iter().all(|(line, wanted)| is_missing(rt, alloc, line, wanted) == Ok(true))
 }
 
-/// Scripts that end at a bad line: its number, why it is bad, and what is said of it.
+/// Scripts that end at a bad line, each with the number of that line, its fault, and its text.
 const BAD_LINES: [(&[u8], u64, Reason, &str); 8] = [
     (
         b"node a@h c\nnode a@h d\n",
@@ -220,7 +238,7 @@ fn is_told<R: Machine>(
         && found.printed.as_slice() == ever.printed.as_slice()
 }
 
-/// Whether bad lines are told as they are without threads, and nothing is printed behind them.
+/// Returns true if bad lines are told as without threads, and nothing is printed behind them.
 pub fn tells_bad_lines<R: Machine>(rt: &R, alloc: Global) -> bool {
     BAD_LINES.iter().all(|(script, number, reason, advice)| {
         is_told(
@@ -233,7 +251,7 @@ pub fn tells_bad_lines<R: Machine>(rt: &R, alloc: Global) -> bool {
     })
 }
 
-/// Whether the threads of a script end whose output can't be written, at any place of it.
+/// Returns true if the threads of a script end when its output can't be written, at any place.
 pub fn ends_the_threads<R: Machine>(rt: &R, alloc: Global) -> bool {
     let (script, _) = TRACE;
     let len = threaded(rt, alloc, script.as_bytes(), &PLAIN).printed.len();
@@ -245,7 +263,7 @@ pub fn ends_the_threads<R: Machine>(rt: &R, alloc: Global) -> bool {
     cut_short(rt, alloc, script.as_bytes(), len) == Outcome::Ran
 }
 
-/// Words of a command line, and the form that they ask for, and whether frames are.
+/// Words of a command line, with the form that they ask for, and true if they ask for frames.
 const OPTIONS: [(&[&str], Option<(Form, bool)>); 6] = [
     (&["erldist", "--threads"], Some((Form::Threads, false))),
     (
@@ -272,7 +290,7 @@ fn reads(alloc: Global, words: &[&str], wanted: Option<(Form, bool)>) -> Result<
     })
 }
 
-/// Whether the command line takes `--threads`, and neither a picture nor events beside it.
+/// Returns true if the command line takes `--threads`, and neither a picture nor events beside it.
 pub fn has_options(alloc: Global) -> Result<bool> {
     for (words, wanted) in OPTIONS {
         if !reads(alloc, words, wanted)? {

@@ -1,6 +1,6 @@
 use Rattle.std.proofs.Common.{◌≡◌, ◌-◌, ◌∙◌, suc, Some, None, ap, arith, string_bytes, sym}
 use Rattle.std.specs.Option.{option_map}
-use Rattle.script_session.specs.Turns.{turn}
+use Rattle.script_session.specs.Turns.{event_of, turn}
 use Rattle.script_session.proofs.Turns.{begins, goes_on, on_ok, settled, used_up}
 use Rattle.script_session.proofs.stage.Stage.settle.Goals as goal
 use Rattle.node_core.specs.NodeEvents.{event_at}
@@ -19,9 +19,12 @@ loop-left-preserved c = record {
       let left = c.loop-left.left in
       let test = c.loop-left-test.true in
       let one : left ≡ suc (left - 1) = omega arith in
-      let event = event_at c.in-Some.node c.in-Some.event in
+      let event = event_at c.in-Some.node c.event-event.result in
       let next : turn g.now ≡ Some event =
-      sym (c.in_ok-node.ensures g.now g.stage g.rests) ∙ ap (option_map (λ next. event_at next.0 next.1)) c.in-Some.is in
+      sym (c.in_ok-node.ensures g.now g.stage g.rests)
+      ∙ ap (option_map (λ next. event_at next.0 (event_of g.now.word next.1))) c.in-Some.is
+      ∙ ap (λ word. Some (event_at c.in-Some.node (event_of word c.in-Some.next))) (sym g.stage.word)
+      ∙ ap (λ event. Some (event_at c.in-Some.node event)) (sym c.event-event.ensures) in
       goes_on 1000000 it left (left - 1) c.loop-left.idle c.in_ok-idle-in-Some.idle c.loop-left.self c.take_turn.new.self
       (string_bytes c.args.out.now) (string_bytes c.loop-left.out) (string_bytes c.take_turn.new.out) event g one next
       (c.in_ok-idle-in-Some.ensures.turned g.now g.stage next);
@@ -34,7 +37,7 @@ returns-in-None c = λ it h.
     let test = c.loop-left-test.true in
     let one : left ≡ suc (left - 1) = omega arith in
     let none : turn g.now ≡ None =
-    sym (c.in_ok-node.ensures g.now g.stage g.rests) ∙ ap (option_map (λ next. event_at next.0 next.1)) c.in-None.is in
+    sym (c.in_ok-node.ensures g.now g.stage g.rests) ∙ ap (option_map (λ next. event_at next.0 (event_of g.now.word next.1))) c.in-None.is in
     on_ok c.put_settled.result (settled 1000000 it left (left - 1) c.loop-left.idle c.loop-left.self (string_bytes c.args.out.now)
     (string_bytes c.loop-left.out) (string_bytes c.put_settled.new.out) g one none) c.put_settled.ensures
 
