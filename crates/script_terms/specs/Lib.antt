@@ -9,3 +9,4 @@ pub mod OneLine
 pub mod Values
 pub mod Unbound
 pub mod Spaces
+pub mod Filling

@@ -16,6 +16,7 @@ mod atoms;
 mod bytes;
 mod checking;
 mod fault;
+mod filling;
 mod integers;
 mod laws;
 mod lists;
@@ -28,6 +29,7 @@ mod words;
 
 pub use checking::check_term;
 pub use fault::{ReadError, TermFault};
+pub use filling::filled;
 pub use laws::{one_line, read_again, read_values};
 pub use names::{Named, Names};
 pub use printing::{put_pid, put_reference, put_term};

@@ -32,7 +32,7 @@ impl Place {
     }
 
     // Returns true if this byte begins a name.
-    fn is_mark(self, byte: u8) -> bool
+    pub(crate) fn is_mark(self, byte: u8) -> bool
         ensures { result ≡ is_mark self byte }
     {
         match self {
