@@ -5,7 +5,7 @@ use Rattle.script_lines.specs.declared.command.Verb.{Verb}
 use Rattle.script_lines.specs.declared.command.Verb.TheVariants.{Node, Pair, Spawn, Send, Link, Unlink, Monitor, Demonitor}
 use Rattle.script_lines.specs.declared.command.Verb.TheVariants.{Trap, Exit, Die, Receive, Links, Alive}
 use Rattle.script_lines.specs.declared.command.Verb.TheVariants.{Register, Unregister, WhereIs, SendName, MonitorName, Ends, Dial, Route}
-use Rattle.script_lines.specs.declared.command.Verb.TheVariants.{Lose, Cut, Stop, Start, Deliver, Local, Sweep, Settle, Show}
+use Rattle.script_lines.specs.declared.command.Verb.TheVariants.{Lose, Cut, Stop, Start, Deliver, Local, Sweep, Settle, Show, Expect}
 
 abbrev pub verb_named : List ℕ → Option Verb
 verb_named word =
@@ -40,4 +40,5 @@ verb_named word =
     else if bytes_eq word (codes "sweep") then Some Sweep
     else if bytes_eq word (codes "settle") then Some Settle
     else if bytes_eq word (codes "show") then Some Show
+    else if bytes_eq word (codes "expect") then Some Expect
     else None

@@ -3,3 +3,5 @@ pub mod Words
 pub mod Naming
 pub mod Said
 pub mod Lines
+pub mod Breaks
+pub mod Replies

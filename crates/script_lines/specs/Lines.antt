@@ -5,10 +5,10 @@ use Rattle.std.specs.Str.{is_utf8}
 use Rattle.erl_term.specs.Reading.{◌>>=◌}
 use Rattle.script_lines.specs.Commands.{verb_named}
 use Rattle.script_lines.specs.Naming.{process_named, processes_named, sender_named, monitor_named, owner_named, demonitor_named}
-use Rattle.script_lines.specs.Naming.{nodes_formed, node_formed, spawn_formed, formed, switch_named, profile_in, atom_read, term_read}
+use Rattle.script_lines.specs.Naming.{nodes_formed, node_formed, spawn_formed, formed, switch_named, profile_in, atom_read, term_read, names_bound}
 use Rattle.script_lines.specs.Said.{Said, said}
 use Rattle.script_lines.specs.Said as says
-use Rattle.script_lines.specs.Words.{word_of, behind_word, no_words, one_word, two_words, two_words_or_three, three_words}
+use Rattle.script_lines.specs.Words.{word_of, behind_word, no_words, one_word, two_words, two_words_or_three, three_words, text_at}
 use Rattle.script_lines.specs.Words.{atom_and_text, atom_and_word, word_and_text, words_and_text}
 use Rattle.script_lines.specs.declared.command.Verb.{Verb}
 use Rattle.script_lines.specs.declared.command.Verb.TheVariants as verb
@@ -91,6 +91,7 @@ verb_says may look verb.Local rest = node_in rest >>= λ node. Ok (says.Local no
 verb_says may look verb.Sweep rest = node_in rest >>= λ node. Ok (says.Sweep node)
 verb_says may look verb.Settle rest = no_words rest >>= λ _. Ok says.Settle
 verb_says may look verb.Show rest = no_words rest >>= λ _. Ok says.Show
+verb_says may look verb.Expect rest = text_at rest >>= λ words. names_bound look words >>= λ _. Ok (says.Expect words)
 
 abbrev pub found : Option Verb → Result Verb Reason
 found None = Err UnknownCommand

@@ -124,6 +124,10 @@ is_atom _ = Err BadTerm
 abbrev pub atom_read : Look → List ℕ → Result (Unit {0}) Reason
 atom_read look text = is_atom (term_of look text)
 
+-- each name behind a $ outside of quotes is bound
+abbrev pub names_bound : Look → List ℕ → Result (Unit {0}) Reason
+names_bound look text = if has_unbound look text then Err UnknownName else Ok tt
+
 -- an atom begins with a quote or a lower-case letter, and no other term does
 abbrev pub begins_atom : List ℕ → Bool
 begins_atom [] = false

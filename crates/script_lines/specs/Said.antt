@@ -38,6 +38,7 @@ pub data Said : Type 0 where
   Sweep : (node : List ℕ) → Said
   Settle : Said
   Show : Said
+  Expect : (words : List ℕ) → Said
 
 abbrev pub said : Line → Said
 said (line.Node name cookie profile) = Node name.now cookie.now profile
@@ -71,3 +72,4 @@ said (line.Local node) = Local node.now
 said (line.Sweep node) = Sweep node.now
 said line.Settle = Settle
 said line.Show = Show
+said (line.Expect words) = Expect words.now

@@ -67,6 +67,8 @@ pub enum Verb {
     Settle,
     /// `show`
     Show,
+    /// `expect`
+    Expect,
 }
 
 impl Verb {
@@ -106,6 +108,7 @@ impl Verb {
             "sweep" => Some(Verb::Sweep),
             "settle" => Some(Verb::Settle),
             "show" => Some(Verb::Show),
+            "expect" => Some(Verb::Expect),
             _ => None,
         }
     }

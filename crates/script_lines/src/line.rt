@@ -153,4 +153,8 @@ pub enum Line<'a> {
     Settle,
     /// `show`
     Show,
+    /// `expect WORDS`, with a bound name behind each `$` outside of quotes.
+    Expect {
+        words: &'a str,
+    },
 }

@@ -1,7 +1,7 @@
 //! The things that the words of a line name.
 ghost use Rattle.std.specs.Prelude.{◌≡◌, ◌&&◌};
 ghost use Rattle.std.specs.Option.{option_copied};
-ghost use Rattle.script_lines.specs.Naming.{atom_read, begins_atom, demonitor_named, formed, free_in, is_cookie, is_cookie_length, is_printable, monitor_named, node_formed, nodes_formed, owner_named, process_in, process_named, processes_named, profile_in, profile_named, reference_in, sender_named, spawn_formed, switch_named, term_read};
+ghost use Rattle.script_lines.specs.Naming.{atom_read, begins_atom, demonitor_named, formed, free_in, is_cookie, is_cookie_length, is_printable, monitor_named, names_bound, node_formed, nodes_formed, owner_named, process_in, process_named, processes_named, profile_in, profile_named, reference_in, sender_named, spawn_formed, switch_named, term_read};
 ghost use Rattle.script_lines.specs.Words.{Answers};
 ghost use Rattle.script_terms.specs.Binding.{Look, Knows};
 ghost use Rattle.script_terms.specs.declared.names.Named.{Named};
@@ -212,6 +212,16 @@ pub(crate) fn term_read(names: &Names, text: &str) -> Result<(), Reason>
         Err(_) if has_unbound(names, text) => Err(Reason::UnknownName),
         Err(fault) => Err(Reason::of(fault)),
     }
+}
+
+/// Checks that each name behind a `$` outside of quotes is bound.
+pub(crate) fn names_bound(names: &Names, text: &str) -> Result<(), Reason>
+    ensures { (look : Look) → Knows names.now look → result ≡ names_bound look text.now }
+{
+    if has_unbound(names, text) {
+        return Err(Reason::UnknownName);
+    }
+    Ok(())
 }
 
 // Returns true if `text` begins as an atom does, and no other term.

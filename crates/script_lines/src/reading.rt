@@ -8,13 +8,13 @@ ghost use Rattle.script_terms.specs.Binding.{Look, Knows};
 use crate::command::Verb;
 use crate::line::Line;
 use crate::naming::{
-    atom_read, demonitor_named, formed, monitor_named, node_formed, nodes_formed, owner_named,
-    process_named, processes_named, profile_in, sender_named, spawn_formed, switch_named,
+    atom_read, demonitor_named, formed, monitor_named, names_bound, node_formed, nodes_formed,
+    owner_named, process_named, processes_named, profile_in, sender_named, spawn_formed, switch_named,
     term_read,
 };
 use crate::reason::Reason;
 use crate::words::{
-    atom_and_text, atom_and_word, first_word, no_words, one_word, three_words, two_words,
+    atom_and_text, atom_and_word, first_word, no_words, one_word, text_at, three_words, two_words,
     two_words_or_three, word_and_text, words_and_text,
 };
 use erl_names::NodeName;
@@ -206,6 +206,14 @@ fn monitorname_line<'a>(names: &'a Names, rest: &'a str) -> Result<Line<'a>, Rea
     })
 }
 
+fn expect_line<'a>(names: &Names, rest: &'a str) -> Result<Line<'a>, Reason>
+    ensures { (may_come : MayCome) (look : Look) → Knows names.now look → Reads (verb_says may_come look verb.Expect rest.now) result }
+{
+    let words = text_at(rest)?;
+    names_bound(names, words)?;
+    Ok(Line::Expect { words })
+}
+
 // Reads the words behind `verb`.
 fn read_verb<'a>(
     may_come: MayCome,
@@ -258,6 +266,7 @@ fn read_verb<'a>(
         Verb::Sweep => node_in(rest).map(|node| Line::Sweep { node }),
         Verb::Settle => no_words(rest).map(|()| Line::Settle),
         Verb::Show => no_words(rest).map(|()| Line::Show),
+        Verb::Expect => expect_line(names, rest),
     }
 }
 

@@ -1,11 +1,11 @@
-//! Why a line is no command.
+//! The reasons for which a script ends at a line.
 ghost use Rattle.std.specs.Prelude.{◌≡◌};
 ghost use Rattle.script_lines.specs.Naming.{reason_of};
 
 use script_terms::TermFault;
 use thiserror::Error;
 
-/// Why a line is no command. The first reason that fits, in this order, is given.
+/// The reason for which a script ends at a line. The first reason that fits, in this order, is given.
 #[derive(Clone, Copy, Debug, PartialEq, Eq, Error)]
 pub enum Reason {
     /// The line has more than 65,536 bytes.
@@ -32,6 +32,9 @@ pub enum Reason {
     /// The rest of the line is no term.
     #[error("bad term")]
     BadTerm,
+    /// The line expects another reply than the last one.
+    #[error("not met")]
+    Unmet,
 }
 
 impl Reason {

@@ -4,7 +4,7 @@ use strsim::levenshtein;
 
 /// Each command with its words. Capitals stand for a text, brackets for an optional word, and other words
 /// for a name.
-const USAGES: [&str; 31] = [
+const USAGES: [&str; 32] = [
     "node NAME COOKIE [PROFILE]",
     "pair",
     "spawn NODE name",
@@ -36,6 +36,7 @@ const USAGES: [&str; 31] = [
     "sweep NODE",
     "settle",
     "show",
+    "expect WORDS",
 ];
 
 /// The most letters in which a word differs from the command that was meant.

@@ -110,8 +110,8 @@ pub(crate) fn three_words(text: &str) -> Result<(&str, &str, &str), Reason>
     Ok((first, second, third))
 }
 
-// Returns a text without the spaces around it. Refuses a text with no other character.
-fn text_at(text: &str) -> Result<&str, Reason>
+/// Returns a text without the spaces around it. Refuses a text with no other character.
+pub(crate) fn text_at(text: &str) -> Result<&str, Reason>
     ensures { Answers (λ word. word.now) result (text_at text.now) }
 {
     let text = trimmed(from_word(text));

@@ -29,3 +29,6 @@ returns-in-SendName c = λ look knows. rw c.in-SendName.is (c.sendname_line.ensu
 
 pub returns-in-MonitorName : goal.returns-in-MonitorName
 returns-in-MonitorName c = λ look knows. rw c.in-MonitorName.is (c.monitorname_line.ensures c.args.may_come look knows)
+
+pub returns-in-Expect : goal.returns-in-Expect
+returns-in-Expect c = λ look knows. rw c.in-Expect.is (c.expect_line.ensures c.args.may_come look knows)
