@@ -5,10 +5,11 @@ use Rattle.std.proofs.lemmas.Bool.{eqb-true}
 use Rattle.std.proofs.lemmas.Bool.Decides.{nat_tests}
 use Rattle.std.proofs.lemmas.List.{append-nil, length-append}
 use Rattle.std.proofs.lemmas.List.Elements.{All-nil, All-append}
-use Rattle.script_core.proofs.ScriptLemmas.{is_break, lines-break, lines-end, long_line}
+use Rattle.script_core.proofs.ScriptLemmas.{lines-break, lines-end, long_line}
 use Rattle.script_core.specs.Kept.{BeginsTooLong, Blames, ComesToEnd, HasKept, KeptAll, Stopped, StopsShort}
 use Rattle.script_core.specs.Lines.{Keeps}
-use Rattle.script_core.specs.Outcomes.{IsOneLine, fault_at}
+use Rattle.script_core.specs.Outcomes.{fault_at}
+use Rattle.script_lines.specs.Breaks.{IsOneLine, is_break}
 use Rattle.script_core.specs.Script.{lines_of}
 use Rattle.script_core.specs.declared.script.Outcome.{Outcome}
 use Rattle.script_core.specs.declared.script.Outcome.TheVariants as outcome

@@ -4,3 +4,4 @@ pub mod DrawnLemmas
 pub mod LineLemmas
 pub mod KeptLemmas
 pub mod Merging
+pub mod Expectations

@@ -7,7 +7,7 @@ use Rattle.std.specs.Prelude.{IfErr, IfSome}
 use Rattle.std.specs.Io.KnownBytes.{Keeps}
 use Rattle.script_core.proofs.ScriptLemmas.{for_known, keeps_appended}
 use Rattle.script_core.specs.Kept.{ComesToEnd, HasKept, ReadMore, ReadsOn, StopsShort}
-use Rattle.script_core.specs.Outcomes.{IsOneLine}
+use Rattle.script_lines.specs.Breaks.{IsOneLine}
 use Rattle.script_core.specs.Script.{lines_of}
 use Rattle.script_core.specs.Threaded.{Along, EndsThreaded, Follows, HasRun, IsBadLine, IsKept, LeadsTo, NotMerged, RanLines, RunsLine, RunsLines, RunsScript, Tells}
 use Rattle.script_core.specs.Threaded.{fresh_known, kept_lines}
@@ -29,7 +29,7 @@ use Rattle.script_threads.specs.declared.session.ThreadedSession.{ThreadedSessio
 next_of : (known : Known) (new : ThreadedSession) (old_text new_text : List ℕ) (said : Option Said) → Goes said known new old_text new_text
     → (next : Known) × Follows said known next × IsKnown new next
 next_of known new old_text new_text None g = (known, refl, g.0)
-next_of known new old_text new_text (Some said) g = (_, (g.made, refl), g.after)
+next_of known new old_text new_text (Some said) g = (_, (g.ran.made, g.text, refl), g.ran.after)
 
 failed_only : (known : Known) (line : List ℕ) (number : ℕ) (new : ThreadedSession) (o : Outcome) → o ≡ outcome.Failed
     → RunsLine known line number new (Err o)
@@ -42,18 +42,18 @@ only_failed P (Err o) h = h.0
 
 pub ran_line : (known : Known) (line : List ℕ) (number : ℕ) (new : ThreadedSession) (old_text new_text : List ℕ)
     (r : Result (Unit {0}) Stop) (x : Unit {0}) (w : Result (Unit {0}) Outcome) → r ≡ Ok x
-    → Obeys (says_of known line) known new old_text new_text r → IfErr w (λ o. o ≡ outcome.Failed) → RunsLine known line number new w
+    → Obeys known line new old_text new_text r → IfErr w (λ o. o ≡ outcome.Failed) → RunsLine known line number new w
 ran_line known line number new old_text new_text r x (Ok y) e o h =
-    let ran = subst (Obeys (says_of known line) known new old_text new_text) e o in
+    let ran = subst (Obeys known line new old_text new_text) e o in
     let next = next_of known new old_text new_text ran.0 ran.2 in
     (ran.0, next.0, ran.1, next.1, next.2)
 ran_line known line number new old_text new_text r x (Err f) e o h = failed_only known line number new f h
 
 pub bad_line_at : (known : Known) (line : List ℕ) (number : ℕ) (new : ThreadedSession) (old_text new_text : List ℕ)
     (r : Result (Unit {0}) Stop) (why : Stop) (reason : Reason) → r ≡ Err why → why ≡ stop.Bad reason
-    → Obeys (says_of known line) known new old_text new_text r → RunsLine known line number new (Err (outcome.BadLine number reason))
+    → Obeys known line new old_text new_text r → RunsLine known line number new (Err (outcome.BadLine number reason))
 bad_line_at known line number new old_text new_text r why reason e is o =
-    (refl, (subst (Obeys (says_of known line) known new old_text new_text) (e ∙ ap (λ (w : Stop). Err w) is) o).0)
+    (refl, (subst (Obeys known line new old_text new_text) (e ∙ ap (λ (w : Stop). Err w) is) o).0)
 
 -- ---- lines, one after the other
 

@@ -7,6 +7,7 @@ use Rattle.std.proofs.lemmas.List.Elements.{All-head, All-tail, All-push, All-ap
 use Rattle.std.proofs.lemmas.List.Splits.{slice_split_at, slice_split_none, slice_split-cons_no}
 use Rattle.std.specs.List.{slice_split, onto_first}
 use Rattle.std.specs.Io.KnownBytes.{Appends, Consumes, Keeps, IsAtEnd, ReadConsumes}
+use Rattle.script_lines.specs.Breaks.{is_break}
 use Rattle.script_lines.specs.declared.reason.Reason.{Reason}
 use Rattle.script_lines.specs.declared.reason.Reason.TheVariants.{TooLong}
 use Rattle.script_core.specs.declared.script.Outcome.{Outcome}
@@ -18,9 +19,6 @@ use Rattle.script_session.specs.Session.{State, Step, line_does}
 use Rattle.script_core.specs.Lines.{Heeds, Steps}
 use Rattle.script_core.specs.Script.{Run, TooManyLines, stops, prints, runs_step, runs_lines, runs_from, lines_of, without_empty_last}
 use Rattle.script_core.specs.Outcomes.{AppendsFront, Answers, Position, opening, rest_of, Reaches, Took, Progress, fault_at}
-
-abbrev pub is_break : ℕ → Bool
-is_break c = eqb c 10
 
 -- ---- the written text
 

@@ -1,6 +1,6 @@
 -- How much has been read of a script by what keeps its lines.
 use Rattle.std.specs.Prelude.{◌≡◌, ◌≤◌, ◌<◌, ◌+◌, ℕ, List, ◌∷◌, ◌++◌, length, Option, None, Some, Result, Ok, Err}
-use Rattle.script_core.specs.Outcomes.{IsOneLine}
+use Rattle.script_lines.specs.Breaks.{IsOneLine}
 use Rattle.script_core.specs.Script.{lines_of}
 use Rattle.script_core.specs.declared.script.Outcome.{Outcome}
 use Rattle.script_core.specs.declared.script.Outcome.TheVariants.{Ran, BadLine, Unmerged}

@@ -4,3 +4,5 @@ pub mod Drawn
 pub mod Lines
 pub mod Kept
 pub mod Threaded
+pub mod Checking
+pub mod Expected

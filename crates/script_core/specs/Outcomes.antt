@@ -6,13 +6,19 @@ use Rattle.script_core.specs.declared.script.Outcome.{Outcome}
 use Rattle.script_core.specs.declared.script.Outcome.TheVariants.{Ran, BadLine, OutOfMemory, Unmerged, Failed}
 use Rattle.script_core.specs.declared.script.Script.{Script}
 use Rattle.script_core.specs.Script.{Run, Whole, AtBadLine, lines_of, runs_from, runs_lines, prints}
+use Rattle.script_lines.specs.Breaks.{IsOneLine}
 use Rattle.script_lines.specs.declared.reason.Reason.{Reason}
+use Rattle.script_lines.specs.declared.reason.Reason.TheVariants.{Unmet}
 use Rattle.script_session.specs.Session.{State}
 
 -- the exit status of the program
+abbrev pub status_at : Reason → ℕ
+status_at Unmet = 7
+status_at reason = 3
+
 abbrev pub status_of : Outcome → ℕ
 status_of Ran = 0
-status_of (BadLine number reason) = 3
+status_of (BadLine number reason) = status_at reason
 status_of OutOfMemory = 4
 status_of Unmerged = 5
 status_of Failed = 6
@@ -51,10 +57,6 @@ opening state = record { number = 1; state = state; pending = [] }
 -- the run of the bytes that are still to come
 abbrev pub rest_of : Position → List ℕ → Run
 rest_of p bytes = runs_lines p.number p.state (lines_of (p.pending ++ bytes))
-
--- no newline is among the bytes
-abbrev pub IsOneLine : List ℕ → Type 0
-IsOneLine bytes = All (λ c. (c == 10) ≡ false) bytes
 
 -- the session that runs its lines stands for the state before the line that comes
 pub record IsAt {S : Type 0} (stands : S → State → Type 0) (s : Script S) (p : Position) : Type 0 where

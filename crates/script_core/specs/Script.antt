@@ -1,6 +1,7 @@
 -- A whole script: what it prints, how it ends, and the state at its end.
 use Rattle.std.specs.Prelude.{ℕ, ◌+◌, ◌==◌, Bool, List, [], ◌∷◌, ◌++◌, length, Result, Ok, Err, nat_lt, if◌then◌else◌}
 use Rattle.std.specs.List.{slice_split}
+use Rattle.script_lines.specs.Breaks.{is_break}
 use Rattle.script_lines.specs.declared.reason.Reason.{Reason}
 use Rattle.script_session.specs.Session.{State, Step, fresh_state, line_does}
 
@@ -11,7 +12,7 @@ without_empty_last (x ∷ []) = if length x == 0 then [] else x ∷ []
 without_empty_last (x ∷ y ∷ more) = x ∷ without_empty_last (y ∷ more)
 
 abbrev pub lines_of : List ℕ → List (List ℕ)
-lines_of input = without_empty_last (slice_split (λ c. c == 10) input)
+lines_of input = without_empty_last (slice_split is_break input)
 
 -- how a script ends: with all its lines run, at a bad line, or past the most lines that are run
 pub data Verdict : Type 0 where

@@ -1,12 +1,13 @@
 -- The end of a script over threads, and the text that is written for it.
 use Rattle.std.specs.Prelude.{◌≡◌, ◌≤◌, ◌+◌, ℕ, Bool, false, List, [], ◌∷◌, ◌++◌, length, map, Option, None, Some, IfSome, Result, Ok, Err}
 use Rattle.std.specs.Io.KnownBytes.{Appends}
-use Rattle.script_core.specs.Outcomes.{IsOneLine}
+use Rattle.script_lines.specs.Breaks.{IsOneLine}
 use Rattle.script_core.specs.Script.{lines_of}
 use Rattle.script_core.specs.declared.script.Outcome.{Outcome}
 use Rattle.script_core.specs.declared.script.Outcome.TheVariants as outcome
 use Rattle.script_core.specs.declared.script.Script.{Script}
 use Rattle.script_core.specs.declared.threads.InThreads.{InThreads}
+use Rattle.script_lines.specs.Replies.{reply_after}
 use Rattle.script_lines.specs.Said.{Said}
 use Rattle.script_lines.specs.declared.reason.Reason.{Reason}
 use Rattle.script_session.specs.Session.{binds, new_name, starts}
@@ -19,13 +20,17 @@ use Rattle.script_threads.specs.declared.session.ThreadedSession.{ThreadedSessio
 
 -- before the first line
 abbrev pub fresh_known : Known
-fresh_known = record { nodes = []; look = λ name. None; started = false }
+fresh_known = record { nodes = []; look = λ name. None; reply = []; started = false }
 
--- the name that the line gives is bound to whatever the nodes have made
+-- the name that the line gives is bound to whatever the nodes have made, and the last line of whatever was printed is the reply
 abbrev pub Follows : Option Said → Known → Known → Type 0
 Follows None known next = next ≡ known
-Follows (Some said) known next =
-    (made : Made) × (next ≡ record { nodes = nodes_after said known.nodes; look = binds (new_name said) made known.look; started = starts said })
+Follows (Some said) known next = (made : Made) × (text : List ℕ) × (next ≡ record {
+  nodes = nodes_after said known.nodes;
+  look = binds (new_name said) made known.look;
+  reply = reply_after text known.reply;
+  started = starts said;
+})
 
 abbrev pub LeadsTo : Known → List (List ℕ) → Known → Type 0
 LeadsTo known [] last = last ≡ known

@@ -5,18 +5,22 @@
 //! [`run_threads`] gives each node of the script a thread. Their [`Outcome`] is the end of the script, with
 //! the number of a bad line and its [`Reason`]. [`read_options`] reads the command line.
 //! [`FusedWriter`] ends the output at the first failed write. `script_session` defines the commands.
-//! [`every_script`] is the law that every script's run is safe.
+//! [`every_script`] is the law that every script's run is safe. [`every_expectation`] is the law that a
+//! script runs through only if what it expects was printed.
 #![tactic(auto)]
 
+mod checking;
 mod laws;
 mod lines;
+mod near_misses;
 mod options;
 mod script;
 mod threads;
 mod writing;
 
-pub use laws::every_script;
-pub use options::{Form, Options, read_options};
+pub use checking::{Tally, put_result};
+pub use laws::{every_expectation, every_script};
+pub use options::{CommandLine, Form, Options, STANDARD_INPUT, read_options};
 pub use script::{Outcome, run_drawing, run_script, run_telling};
 pub use script_lines::Reason;
 pub use script_threads::Machine;

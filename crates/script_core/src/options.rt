@@ -1,7 +1,8 @@
 //! The command line.
+use crate::near_misses::remedy_for;
 use clap::error::ErrorKind;
 use clap::{Arg, ArgAction, ArgMatches, Command, Error};
-use std::alloc::Global;
+use std::alloc::{AllocError, Global};
 
 /// The form of a script's output.
 #[derive(Clone, Copy, Debug, PartialEq, Eq)]
@@ -16,7 +17,18 @@ pub enum Form {
     Threads,
 }
 
-/// The options of the command line.
+/// The words of a command line.
+#[derive(Debug, Drop)]
+pub struct CommandLine<'a> {
+    /// The options that are the same for each script.
+    pub options: Options,
+    /// The paths of the scripts' files, of which `-` is standard input. Without `check` it is one.
+    pub files: Vec<&'a str>,
+    /// True if each script is run for its outcome alone.
+    pub check: bool,
+}
+
+/// The options of a script.
 #[derive(Clone, Copy, Debug, PartialEq, Eq)]
 pub struct Options {
     /// True if each frame that is sent is printed. A script of a pair prints them in any case.
@@ -27,7 +39,13 @@ pub struct Options {
     pub seed: u32,
 }
 
-const ABOUT: &str = "Erlang nodes in one process, driven by a script on standard input";
+const ABOUT: &str = "Erlang nodes in one process, driven by a script";
+
+/// The path of standard input.
+pub const STANDARD_INPUT: &str = "-";
+
+/// More files than one are for `--check` alone.
+const MANY_FILES: &str = "one FILE is run at a time: write '--check' before the files to run each for its outcome";
 
 /// The forms of a trace: frames in hex, or events in JSON.
 const TRACES: &[&str] = &["hex", "json"];
@@ -73,11 +91,13 @@ Commands of a script, one a line:
   sweep NODE         one record of a lost connection is swept
   settle             all of this happens, until nothing more may
   show               the nodes, their processes and the messages that wait
+  expect WORDS       ends the script with status 7 unless the last line that was printed is WORDS; in them
+                     $name is the process or the reference
 With --threads there is no pair, deliver, local or sweep: nodes in threads take what comes by themselves.
 
 Exit status: 0 the script ran; 2 wrong command line; 3 bad line; 4 no memory, or no threads; 5 the
 histories of nodes in threads don't merge; 6 reading or writing failed, or the script has more than
-1,048,576 lines. docs/SCRIPTS.md tells the whole.";
+1,048,576 lines; 7 an 'expect' isn't met, or with --check a script failed. docs/SCRIPTS.md tells the whole.";
 
 // Returns the command line's options and their help.
 fn command<'a>(alloc: Global) -> Result<Command<'a>, Error> {
@@ -105,6 +125,16 @@ fn command<'a>(alloc: Global) -> Result<Command<'a>, Error> {
         .help("The first challenge word of the handshakes")
         .default_value("1")
         .value_parser(clap::value_parser!(u32));
+    let check = Arg::new(alloc, "check")
+        .long("check")
+        .help("Run each FILE, print whether it passed, and count; a script fails at an 'expect' that isn't met")
+        .action(ArgAction::SetTrue)
+        .conflicts_with("trace")?
+        .conflicts_with("picture")?;
+    let files = Arg::new(alloc, "FILE")
+        .value_name("FILE")
+        .help("The script; standard input if it is '-' or left out")
+        .num_args(0..);
     Ok(
         Command::new(alloc, "erldist")
             .about(ABOUT)
@@ -113,8 +143,22 @@ fn command<'a>(alloc: Global) -> Result<Command<'a>, Error> {
             .arg(trace)?
             .arg(threads)?
             .arg(picture)?
-            .arg(seed)?,
+            .arg(check)?
+            .arg(seed)?
+            .arg(files)?,
     )
+}
+
+// Returns the paths of the scripts: standard input if there is none.
+fn files_of<'a>(alloc: Global, matches: &ArgMatches<'a>) -> Result<Vec<&'a str>, AllocError> {
+    let mut files = Vec::new(alloc);
+    if let Some(paths) = matches.get_strs("FILE") {
+        files.extend_from_slice(paths)?;
+    }
+    if files.is_empty() {
+        files.push(STANDARD_INPUT)?;
+    }
+    Ok(files)
 }
 
 // Returns the form of a script's output, or None if the options exclude each other.
@@ -133,15 +177,27 @@ fn form_of(matches: &ArgMatches<'_>) -> Option<Form> {
 ///
 /// An error has the text for the user: help or the version that was asked for, or what is wrong with the
 /// words.
-pub fn read_options<'a>(alloc: Global, words: &'a [String]) -> Result<Options, Error> {
+pub fn read_options<'a>(alloc: Global, words: &'a [String]) -> Result<CommandLine<'a>, Error> {
     let mut command = command(alloc)?;
+    if let Some(remedy) = remedy_for(words) {
+        return Err(command.error(ErrorKind::UnknownArgument, remedy)?);
+    }
     let matches = command.try_get_matches_from_mut(words)?;
     let Some(form) = form_of(&matches) else {
         return Err(command.error(ErrorKind::ArgumentConflict, THREADS_AND_EVENTS)?);
     };
-    Ok(Options {
-        trace: matches.get_str("trace") == Some("hex"),
-        form,
-        seed: matches.get_one::<u32>("seed").unwrap_or(1),
+    let files = files_of(alloc, &matches)?;
+    let check = matches.get_flag("check");
+    if files.len() > 1 && !check {
+        return Err(command.error(ErrorKind::TooManyValues, MANY_FILES)?);
+    }
+    Ok(CommandLine {
+        options: Options {
+            trace: matches.get_str("trace") == Some("hex"),
+            form,
+            seed: matches.get_one::<u32>("seed").unwrap_or(1),
+        },
+        files,
+        check,
     })
 }

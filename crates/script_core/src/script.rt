@@ -6,16 +6,16 @@ ghost use Rattle.script_core.specs.declared.script.Outcome.{Outcome};
 ghost use Rattle.script_core.specs.Drawn.{Draws, Ends};
 ghost use Rattle.script_core.specs.Kept.{Came, ComesToEnd, HasKept, ReadsOn};
 ghost use Rattle.script_core.specs.Script.{runs_from, script};
+ghost use Rattle.script_lines.specs.Breaks.{IsOneLine};
 ghost use Rattle.script_session.specs.Session.{State};
 ghost use Rattle.script_threads.specs.Standing.{Known};
 ghost use Rattle.diagram_svg.specs.Markup.{IsDocument};
-ghost use Rattle.script_core.specs.Outcomes.{status_of, fault_at, Answers, Position, opening, rest_of, IsAt, IsOneLine, Took, Progress, GoesOn, AppendsFront};
+ghost use Rattle.script_core.specs.Outcomes.{status_of, fault_at, Answers, Position, opening, rest_of, IsAt, Took, Progress, GoesOn, AppendsFront};
 
 use crate::lines::Lines;
 use crate::options::Options;
 use diagram_svg::put_picture;
-use memchr::memchr;
-use script_lines::{LINE_LIMIT, Reason};
+use script_lines::{LINE_LIMIT, Reason, split_line};
 use script_session::{Session, Stop};
 use std::alloc::{AllocError, Global};
 use std::io::{self, ErrorKind, Read, Write};
@@ -28,7 +28,8 @@ pub const LINES: u64 = 1_048_576;
 pub enum Outcome {
     /// It ran through, refused commands included.
     Ran,
-    /// A line is bad: its number, from 1, and the reason. The output of the lines before stays.
+    /// The script ends at a line that is bad, or that expects another reply: its number, from 1, and the
+    /// reason. The output of the lines before stays.
     BadLine(u64, Reason),
     /// Memory is wanting, or threads are.
     OutOfMemory,
@@ -45,6 +46,7 @@ impl Outcome {
     {
         match self {
             Outcome::Ran => 0,
+            Outcome::BadLine(_, Reason::Unmet) => 7,
             Outcome::BadLine(..) => 3,
             Outcome::OutOfMemory => 4,
             Outcome::Unmerged => 5,
@@ -363,28 +365,6 @@ impl Script<Session> {
             Ok(()) => Ok(()),
             Err(_) => Err(Outcome::Failed),
         }
-    }
-}
-
-/// Returns the place of the first newline, if there is one.
-fn newline_in(bytes: &[u8]) -> Option<usize>
-    ensures line { IfSome result (λ at. IsOneLine (take at bytes.now)) }
-    ensures ends { IfSome result (λ at. bytes.now ≡ take at bytes.now ++ (10 ∷ drop (at + 1) bytes.now)) }
-    ensures within { IfSome result (λ at. at < length bytes.now) }
-    ensures none { IfNone result (IsOneLine bytes.now) }
-{
-    memchr(b'\n', bytes)
-}
-
-/// Returns the text before the first newline, and the bytes behind it, if there is one.
-fn split_line(bytes: &[u8]) -> Option<(&[u8], &[u8])>
-    ensures line { IfSome result (λ parts. IsOneLine parts.0.now) }
-    ensures parts { IfSome result (λ parts. bytes.now ≡ parts.0.now ++ (10 ∷ parts.1.now)) }
-    ensures none { IfNone result (IsOneLine bytes.now) }
-{
-    match newline_in(bytes) {
-        Some(at) => Some((&bytes[..at], &bytes[at + 1..])),
-        None => None,
     }
 }
 

@@ -2,3 +2,4 @@ pub mod WordLemmas
 pub mod LineLemmas
 pub mod AtomLemmas
 pub mod BreakLemmas
+pub mod ReadReasons

@@ -11,6 +11,7 @@ use Rattle.dist_model.specs.declared.command.Command.{Command}
 use Rattle.erl_names.specs.declared.trunk.TrunkId.{TrunkId}
 use Rattle.erl_term.specs.declared.refusal.Refusal.{Refusal}
 use Rattle.script_lines.specs.Lines.{line_says}
+use Rattle.script_lines.specs.Replies.{expected, is_met}
 use Rattle.script_lines.specs.Said.{Said}
 use Rattle.script_lines.specs.Said as says
 use Rattle.script_lines.specs.declared.reason.Reason.{Reason}
@@ -18,8 +19,8 @@ use Rattle.script_session.specs.Connections as connections
 use Rattle.script_session.specs.Connections.{arrives, coming_to, lose, lose_all}
 use Rattle.script_session.specs.Connections.{lose_at, lose_live, lose_on, live_sides, is_any}
 use Rattle.script_session.specs.Pairs.{pair_nodes, pair_plays, pair_stage}
-use Rattle.script_session.specs.Session.{State, asks, does, is_taken, joined, line_does}
-use Rattle.script_session.specs.Session.{may_come, moves, plays, plays_as, says_does, starts}
+use Rattle.script_session.specs.Session.{State, asks, does, expects, is_taken, joined, line_does}
+use Rattle.script_session.specs.Session.{may_come, moves, plays, plays_as, says_does, starts, stays}
 use Rattle.script_session.specs.Stage as stage
 use Rattle.script_session.specs.Stage.{Scene, Stage, after, play}
 use Rattle.script_session.specs.Stands.{IsLed, IsOpening}
@@ -170,8 +171,17 @@ line_led state line h = go (line_says (may_come state) state.names line) refl
         → IfOk (says_does state r) (λ step. IsLed step.state)
     go (Ok None) e = h
     go (Err reason) e = tt
-    go (Ok (Some said)) e = free (is_taken said state.stage.world.names)
+    go (Ok (Some said)) e = either (expected said)
       where
         free : (b : Bool) → IfOk (cond b (Err Reason.NameTaken) (Ok (does said state))) (λ step. IsLed step.state)
         free true = tt
         free false = does_led said state h (node_comes_early state line said e)
+
+        met : (b : Bool) → IfOk (cond b (Ok (stays state)) (Err Reason.Unmet)) (λ step. IsLed step.state)
+        met true = h
+        met false = tt
+
+        either : (words : Option (List ℕ))
+            → IfOk (expects words state (cond (is_taken said state.stage.world.names) (Err Reason.NameTaken) (Ok (does said state)))) (λ step. IsLed step.state)
+        either None = free (is_taken said state.stage.world.names)
+        either (Some words) = met (is_met state.names state.reply words)

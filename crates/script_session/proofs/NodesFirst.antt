@@ -8,12 +8,12 @@ use Rattle.erl_names.specs.Name.{is_node_name}
 use Rattle.script_lines.specs.Commands.{verb_named}
 use Rattle.script_lines.specs.Lines.{found, line_says, node_in, nodes_in, placed, process_in, process_and_term_in}
 use Rattle.script_lines.specs.Lines.{processes_in, processes_and_term_in, verb_says, words_say}
-use Rattle.script_lines.specs.Naming.{atom_read, demonitor_named, formed, monitor_named, node_formed, process_named, profile_in}
+use Rattle.script_lines.specs.Naming.{atom_read, demonitor_named, formed, monitor_named, names_bound, node_formed, process_named, profile_in}
 use Rattle.script_lines.specs.Naming.{owner_named, sender_named, spawn_formed, switch_named, term_read}
 use Rattle.script_lines.specs.Said.{Said}
 use Rattle.script_lines.specs.Said as says
 use Rattle.script_lines.specs.Words.{atom_and_text, atom_and_word, behind_word, no_words, three_words, two_words, two_words_or_three}
-use Rattle.script_lines.specs.Words.{word_and_text, word_of, words_and_text}
+use Rattle.script_lines.specs.Words.{text_at, word_and_text, word_of, words_and_text}
 use Rattle.script_lines.specs.declared.command.Verb.{Verb}
 use Rattle.script_lines.specs.declared.command.Verb.TheVariants as verb
 use Rattle.script_lines.specs.declared.reading.MayCome.{MayCome}
@@ -70,6 +70,7 @@ late may look verb.Local rest e = bind (node_in rest) _ (λ node. refl)
 late may look verb.Sweep rest e = bind (node_in rest) _ (λ node. refl)
 late may look verb.Settle rest e = bind (no_words rest) _ (λ _. refl)
 late may look verb.Show rest e = bind (no_words rest) _ (λ _. refl)
+late may look verb.Expect rest e = bind (text_at rest) _ (λ words. bind (names_bound look words) _ (λ _. refl))
 late may look v rest e = bind (nodes_in rest) _ (λ nodes. refl)
 
 -- the same of a line, which may be passed over

@@ -13,6 +13,7 @@ use Rattle.erl_handshake.specs.declared.profile.Profile.{Profile}
 use Rattle.erl_term.specs.Data.{Data, atom, list, no_items}
 use Rattle.erl_term.specs.declared.term.Pid.{Pid}
 use Rattle.script_lines.specs.Lines.{line_says}
+use Rattle.script_lines.specs.Replies.{expected, is_met, reply_after}
 use Rattle.script_lines.specs.Said.{Said}
 use Rattle.script_lines.specs.Said as says
 use Rattle.script_lines.specs.declared.reading.MayCome.{MayCome}
@@ -34,11 +35,13 @@ pub record State : Type 0 where
   pub stage : Stage
   -- the meaning of the script's names
   pub names : Look
+  -- the last line that a command has printed
+  pub reply : List ℕ
   -- true once a command has come that no line for a node may follow
   pub started : Bool
 
 abbrev pub fresh_state : (trace : Bool) → (word : ℕ) → State
-fresh_state trace word = record { stage = record { world = opening []; word = word; trace = trace }; names = λ name. None; started = false }
+fresh_state trace word = record { stage = record { world = opening []; word = word; trace = trace }; names = λ name. None; reply = []; started = false }
 
 -- ---- the effect of a command on the stage, and its output
 
@@ -172,9 +175,23 @@ pub record Step : Type 0 where
 
 abbrev pub does : Said → State → Step
 does said state = let scene = plays state.names said state.stage in record {
-  state = record { stage = scene.stage; names = binds (new_name said) scene.made state.names; started = starts said };
+  state = record {
+    stage = scene.stage;
+    names = binds (new_name said) scene.made state.names;
+    reply = reply_after scene.text state.reply;
+    started = starts said;
+  };
   text = scene.text;
 }
+
+-- nothing happens, and nothing is printed
+abbrev pub stays : State → Step
+stays state = record { state = state; text = [] }
+
+-- words that are expected are the last reply, or their line is a bad one. Any other line goes its way
+abbrev pub expects : Option (List ℕ) → State → Result Step Reason → Result Step Reason
+expects None state does = does
+expects (Some words) state does = if is_met state.names state.reply words then Ok (stays state) else Err Reason.Unmet
 
 -- a line for a node of a name that another has is a bad line too
 abbrev pub is_taken : Said → List Name → Bool
@@ -182,8 +199,9 @@ is_taken (says.Node name cookie profile) names = has_name name names
 is_taken _ names = false
 
 abbrev pub says_does : State → Result (Option Said) Reason → Result Step Reason
-says_does state (Ok None) = Ok (record { state = state; text = [] })
-says_does state (Ok (Some said)) = if is_taken said state.stage.world.names then Err Reason.NameTaken else Ok (does said state)
+says_does state (Ok None) = Ok (stays state)
+says_does state (Ok (Some said)) =
+    expects (expected said) state (if is_taken said state.stage.world.names then Err Reason.NameTaken else Ok (does said state))
 says_does state (Err reason) = Err reason
 
 -- the lines for nodes come first, and are at most 64. The line for a pair is the first of all

@@ -1,10 +1,12 @@
 -- The states that a stage and a session of code stand for, and the results of calls of them.
-use Rattle.std.specs.Prelude.{◌≡◌, false, ℕ, List, ◌++◌, Result, Ok, Err}
+use Rattle.std.specs.Prelude.{◌≡◌, Bool, true, false, ℕ, List, ◌++◌, Some, Result, Ok, Err}
 use Rattle.dist_model.specs.Names.{Name}
 use Rattle.dist_model.specs.Runs.{opening}
 use Rattle.dist_model.specs.World.{Event, World, step}
+use Rattle.script_lines.specs.Lines.{line_says}
+use Rattle.script_lines.specs.Said.{Said}
 use Rattle.script_lines.specs.declared.reason.Reason.{Reason}
-use Rattle.script_session.specs.Session.{State, Step}
+use Rattle.script_session.specs.Session.{State, Step, is_taken, line_does, may_come}
 use Rattle.script_session.specs.Stage.{Scene, after, sents_of, Stage as TheStage}
 use Rattle.script_session.specs.declared.made.Made.{Made}
 use Rattle.script_session.specs.declared.session.Session.{Session}
@@ -27,6 +29,7 @@ IsOpening world = (nodes : List (Name × Setup)) × (world ≡ opening nodes)
 pub record IsSession (session : Session) (state : State) : Type 0 where
   pub stage : IsStage session.stage state.stage
   pub names : Knows session.names state.names
+  pub reply : session.reply.line.items ≡ state.reply
   pub started : session.started ≡ state.started
   -- before a command has come, nothing has happened in the world
   pub opening : state.started ≡ false → IsOpening state.stage.world
@@ -59,11 +62,21 @@ pub record Steps (does : Result Step Reason) (new : Session) (old_text new_text 
   pub state : IsSession new step.state
   pub text : new_text ≡ old_text ++ step.text
 
--- a line was run, or is a bad line; memory may want only where it is none
-abbrev pub Obeys : Result Step Reason → Session → (old_text new_text : List ℕ) → Result (Unit {0}) Stop → Type 0
-Obeys does new old_text new_text (Ok x) = Steps does new old_text new_text
-Obeys does new old_text new_text (Err (stop.Bad reason)) = (does ≡ Err reason) × (new_text ≡ old_text)
-Obeys does new old_text new_text (Err stop.OutOfMemory) = (step : Step) × (does ≡ Ok step)
+-- it can be run, or it expects a reply, which takes memory to compare
+abbrev pub IsCommand : State → (line : List ℕ) → Type 0
+IsCommand state line = (said : Said) × (line_says (may_come state) state.names line ≡ Ok (Some said)) × (is_taken said state.stage.world.names ≡ false)
+
+-- a line was run, or is a bad line; memory may want only where it is a command
+abbrev pub Obeys : State → (line : List ℕ) → Session → (old_text new_text : List ℕ) → Result (Unit {0}) Stop → Type 0
+Obeys state line new old_text new_text (Ok x) = Steps (line_does state line) new old_text new_text
+Obeys state line new old_text new_text (Err (stop.Bad reason)) = (line_does state line ≡ Err reason) × (new_text ≡ old_text)
+Obeys state line new old_text new_text (Err stop.OutOfMemory) = IsCommand state line
+
+-- words that are expected are the last reply, or aren't; or memory is wanting
+abbrev pub Compares : (met : Bool) → Result (Unit {0}) Stop → Type 0
+Compares met (Ok x) = met ≡ true
+Compares met (Err (stop.Bad reason)) = (reason ≡ Reason.Unmet) × (met ≡ false)
+Compares met (Err stop.OutOfMemory) = Unit {0}
 
 -- ---- some events lead to the world of a state from an opening one
 

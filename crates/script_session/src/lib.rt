@@ -23,6 +23,6 @@ pub use laws::events_lead_to_every_line;
 pub use made::Made;
 pub use pairs::{node_name, setup};
 pub use playing::{asked, new_name, starts};
-pub use session::{MOST_NODES, Session, Stop, bind};
+pub use session::{MOST_NODES, Session, Stop, bind, compare};
 pub use showing::put_shown;
 pub use stage::put_sents;

@@ -416,6 +416,8 @@ impl Stage {
             Line::WhereIs { .. } => Ok(Made::Nothing),
             Line::SendName { .. } => Ok(Made::Nothing),
             Line::MonitorName { .. } => Ok(Made::Nothing),
+            // `Session::line` compares the last reply, and plays no such line
+            Line::Expect { .. } => Ok(Made::Nothing),
         }
     }
 

@@ -1,9 +1,10 @@
 //! The session of a script.
-ghost use Rattle.std.specs.Prelude.{◌≡◌, [], true, false, None, IfOk, OnOk, string_bytes};
+ghost use Rattle.std.specs.Prelude.{◌≡◌, [], true, false, None, Ok, IfOk, OnOk, string_bytes};
+ghost use Rattle.script_lines.specs.Replies.{is_met};
 ghost use Rattle.script_lines.specs.Said.{said};
-ghost use Rattle.script_session.specs.Session.{State, binds, fresh_state, is_taken, line_does, may_come, new_name, plays, starts};
+ghost use Rattle.script_session.specs.Session.{State, binds, does, fresh_state, is_taken, may_come, new_name, plays, starts};
 ghost use Rattle.script_session.specs.Stage.{Stage as TheStage};
-ghost use Rattle.script_session.specs.Stands.{IsOpening, IsStage, IsSession, Obeys, Plays};
+ghost use Rattle.script_session.specs.Stands.{Compares, IsOpening, IsStage, IsSession, Obeys, Plays, Steps};
 ghost use Rattle.script_session.specs.Telling.{IsDrawing, IsTaken};
 ghost use Rattle.script_terms.specs.Binding.{Knows, Look};
 ghost use Rattle.world_core.specs.Names.{names_of};
@@ -14,7 +15,7 @@ use crate::playing::{is_taken, new_name, starts};
 use crate::stage::Stage;
 use crate::telling::Telling;
 use diagram::Diagram;
-use script_lines::{Line, MayCome, Reason, put_advice, read_line};
+use script_lines::{Line, MayCome, Reason, Reply, expected, put_advice, read_line};
 use script_terms::{Named, Names};
 use std::alloc::{AllocError, Global};
 use world_core::World;
@@ -31,11 +32,12 @@ pub enum Stop {
     OutOfMemory,
 }
 
-/// A script of which some lines have run: its world, and the meanings of its names.
+/// A script of which some lines have run: its world, the meanings of its names, and the last reply.
 #[derive(Drop)]
 pub struct Session {
     stage: Stage,
     names: Names,
+    reply: Reply,
     started: bool,
 }
 
@@ -84,6 +86,20 @@ pub fn bind(alloc: Global, names: &mut Names, name: String, made: Made) -> Resul
     }
 }
 
+/// Compares the last reply with the words that a line expects.
+///
+/// # Errors
+/// [`Stop::Bad`] with [`Reason::Unmet`] if they aren't the reply; [`Stop::OutOfMemory`].
+pub fn compare(alloc: Global, reply: &Reply, names: &Names, words: &str) -> Result<(), Stop>
+    ensures { (look : Look) → Knows names.now look → Compares (is_met look reply.now.line.items words.now) result }
+{
+    match reply.is(alloc, names, words) {
+        Ok(true) => Ok(()),
+        Ok(false) => Err(Stop::Bad(Reason::Unmet)),
+        Err(_) => Err(Stop::OutOfMemory),
+    }
+}
+
 impl Session {
     /// Creates a session before its first line. With `trace` each frame that is sent is printed. The first
     /// challenge of a handshake is the seed, and each next one is greater by 1. Never allocates.
@@ -98,6 +114,7 @@ impl Session {
                 telling: Telling::off(alloc),
             },
             names: Names::new(alloc),
+            reply: Reply::new(alloc),
             started: false,
         }
     }
@@ -113,13 +130,33 @@ impl Session {
         }
     }
 
+    // Runs a command, whose line has this text, and appends its output to `out`, which is empty.
+    fn run(
+        &mut self,
+        alloc: Global,
+        text: &[u8],
+        line: Line,
+        out: &mut String,
+    ) -> Result<(), AllocError>
+        requires { is_taken (said line.entry) (names_of self.old.stage.world.nodes.items) ≡ false }
+        requires { string_bytes out.old ≡ [] }
+        ensures { (state : State) → IsSession self.old state → (starts (said line.entry) ≡ false → IsOpening state.stage.world) →
+            OnOk result (Steps (Ok (does (said line.entry) state)) self.new [] (string_bytes out.new)) }
+    {
+        let (name, made) = carry_out(alloc, &mut self.stage, &self.names, text, line, out)?;
+        bind(alloc, &mut self.names, name, made)?;
+        self.reply.follow(out.as_bytes())?;
+        self.started = starts(line);
+        Ok(())
+    }
+
     /// Runs a line, and appends its output. Its effect is told over the events of `dist_model`'s world.
     ///
     /// # Errors
-    /// [`Stop::Bad`] where the line is no command, or may not come here, before anything happens;
-    /// [`Stop::OutOfMemory`] only where it is one.
+    /// [`Stop::Bad`] where the line is no command, may not come here, or expects another reply than the
+    /// last, before anything happens; [`Stop::OutOfMemory`] only where it is a command.
     pub fn line(&mut self, alloc: Global, line: &[u8], out: &mut String) -> Result<(), Stop>
-        ensures { (state : State) → IsSession self.old state → Obeys (line_does state line.now) self.new (string_bytes out.old) (string_bytes out.new) result }
+        ensures { (state : State) → IsSession self.old state → Obeys state line.now self.new (string_bytes out.old) (string_bytes out.new) result }
     {
         let text = line;
         let line = match read_line(self.may_come(), &self.names, text) {
@@ -127,18 +164,19 @@ impl Session {
             Ok(None) => return Ok(()),
             Err(reason) => return Err(Stop::Bad(reason)),
         };
+        if let Some(words) = expected(line) {
+            return compare(alloc, &self.reply, &self.names, words);
+        }
         if is_taken(&self.stage, line) {
             return Err(Stop::Bad(Reason::NameTaken));
         }
-        let has_started = starts(line);
-        let Ok((name, made)) = carry_out(alloc, &mut self.stage, &self.names, text, line, out)
-        else {
+        let mut printed = String::new(alloc);
+        let Ok(()) = self.run(alloc, text, line, &mut printed) else {
             return Err(Stop::OutOfMemory);
         };
-        let Ok(()) = bind(alloc, &mut self.names, name, made) else {
+        let Ok(()) = out.push_str(printed.as_str()) else {
             return Err(Stop::OutOfMemory);
         };
-        self.started = has_started;
         Ok(())
     }
 
@@ -201,6 +239,9 @@ impl Session {
         reason: Reason,
         line: &[u8],
     ) -> Result<(), AllocError> {
+        if reason == Reason::Unmet {
+            return self.reply.put_unmet(alloc, out, &self.names, line);
+        }
         put_advice(alloc, out, &self.names, reason, line)
     }
 }

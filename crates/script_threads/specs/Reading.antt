@@ -1,7 +1,8 @@
 -- The meaning of a line if nodes have threads. Four commands are missing: threads take by themselves the items that come.
-use Rattle.std.specs.Prelude.{Option, Some, ℕ, Bool, true, false, List, Result, Ok, Err, if◌then◌else◌}
+use Rattle.std.specs.Prelude.{Option, None, Some, ℕ, Bool, true, false, List, Result, Ok, Err, if◌then◌else◌}
 use Rattle.dist_model.specs.Names.{Name}
 use Rattle.script_lines.specs.Lines.{line_says, verb_in}
+use Rattle.script_lines.specs.Replies.{expected, is_met}
 use Rattle.script_lines.specs.Said.{Said}
 use Rattle.script_lines.specs.declared.command.Verb.{Verb}
 use Rattle.script_lines.specs.declared.command.Verb.TheVariants as verb
@@ -25,3 +26,12 @@ says may look line = if is_missing (verb_in line) then Err Reason.UnknownCommand
 abbrev pub unless_taken : List Name → Result (Option Said) Reason → Result (Option Said) Reason
 unless_taken names (Ok (Some said)) = if is_taken said names then Err Reason.NameTaken else Ok (Some said)
 unless_taken names due = due
+
+-- words that are expected are the last reply, and then nothing is asked for, or their line is a bad one
+abbrev pub unless_expected : Option (List ℕ) → Look → (reply : List ℕ) → Said → Result (Option Said) Reason
+unless_expected None look reply said = Ok (Some said)
+unless_expected (Some words) look reply said = if is_met look reply words then Ok None else Err Reason.Unmet
+
+abbrev pub unless_unmet : Look → (reply : List ℕ) → Result (Option Said) Reason → Result (Option Said) Reason
+unless_unmet look reply (Ok (Some said)) = unless_expected (expected said) look reply said
+unless_unmet look reply due = due

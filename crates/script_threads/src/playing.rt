@@ -73,6 +73,8 @@ impl NodeThreads {
             Line::WhereIs { .. } => Ok(Made::Nothing),
             Line::SendName { .. } => Ok(Made::Nothing),
             Line::MonitorName { .. } => Ok(Made::Nothing),
+            // `ThreadedSession::line` compares the last reply, and plays no such line
+            Line::Expect { .. } => Ok(Made::Nothing),
         }
     }
 

@@ -1,28 +1,29 @@
 //! The session of a script whose nodes have threads.
-ghost use Rattle.std.specs.Prelude.{◌≡◌, [], IfOk, None, false, string_bytes};
+ghost use Rattle.std.specs.Prelude.{◌≡◌, [], IfOk, OnOk, None, false, string_bytes};
 ghost use Rattle.dist_books.specs.Acting.{names_of};
 ghost use Rattle.script_lines.specs.Said.{said};
 ghost use Rattle.script_session.specs.Session.{is_taken, new_name};
 ghost use Rattle.script_terms.specs.Binding.{Knows, Look};
-ghost use Rattle.script_threads.specs.Standing.{IsKnown, Known, MayCome, Obeys, may_come, nodes_after, nodes_of, says_of};
+ghost use Rattle.script_threads.specs.Standing.{IsKnown, Known, MayCome, Obeys, Ran, may_come, nodes_after, nodes_of};
 
 use crate::advice::put_advice;
 use crate::nodes::has_name;
 use crate::reading::read;
 use crate::running::Machine;
 use crate::threads::NodeThreads;
-use script_lines::{Line, MayCome as Coming, Reason};
-use script_session::{MOST_NODES, Made, Stop, bind, new_name, starts};
+use script_lines::{Line, MayCome as Coming, Reason, Reply, expected};
+use script_session::{MOST_NODES, Made, Stop, bind, compare, new_name, starts};
 use script_terms::Names;
 use std::alloc::{AllocError, Global};
 
 /// A script of which some lines have run: its nodes, which have a thread each from the first command on
-/// that no line for a node may follow, and what its names stand for. It is to be ended by
+/// that no line for a node may follow, the meanings of its names, and the last reply. It is to be ended by
 /// [`ThreadedSession::finish`] or [`ThreadedSession::abandon`], since its threads go on until then.
 #[derive(Drop)]
 pub struct ThreadedSession {
     pub(crate) threads: NodeThreads,
     names: Names,
+    reply: Reply,
     started: bool,
 }
 
@@ -64,11 +65,12 @@ impl ThreadedSession {
     /// greater by 1; so are those that each node draws for the connections that are new to it. Takes no
     /// memory, and starts no thread.
     pub fn new(alloc: Global, seed: u32) -> ThreadedSession
-        ensures { IsKnown result (record { nodes = []; look = λ name. None; started = false }) }
+        ensures { IsKnown result (record { nodes = []; look = λ name. None; reply = []; started = false }) }
     {
         ThreadedSession {
             threads: NodeThreads::new(alloc, seed),
             names: Names::new(alloc),
+            reply: Reply::new(alloc),
             started: false,
         }
     }
@@ -84,12 +86,31 @@ impl ThreadedSession {
         }
     }
 
-    /// Runs a line, and puts what it prints behind what is printed. Bad lines are told by the same words
-    /// as without threads.
+    // Runs a command, and appends its output to `out`, which is empty.
+    fn run<R: Machine>(
+        &mut self,
+        rt: &R,
+        alloc: Global,
+        line: Line,
+        out: &mut String,
+    ) -> Result<(), AllocError>
+        requires { string_bytes out.old ≡ [] }
+        ensures { (known : Known) → IsKnown self.old known → MayCome (said line.entry) self.old.threads.cast →
+            OnOk result (Ran (said line.entry) known self.new (string_bytes out.new)) }
+    {
+        let (name, made) = carry_out(rt, alloc, &mut self.threads, &self.names, line, out)?;
+        bind(alloc, &mut self.names, name, made)?;
+        self.reply.follow(out.as_bytes())?;
+        self.started = starts(line);
+        Ok(())
+    }
+
+    /// Runs a line, and appends its output. Bad lines are told by the same words as without threads.
     ///
     /// # Errors
-    /// [`Stop::Bad`] where the line is no command, or may not come here, before anything happens;
-    /// [`Stop::OutOfMemory`] only where it is one, for want of threads too.
+    /// [`Stop::Bad`] where the line is no command, may not come here, or expects another reply than the
+    /// last, before anything happens; [`Stop::OutOfMemory`] only where it is a command, for want of threads
+    /// too.
     pub fn line<R: Machine>(
         &mut self,
         rt: &R,
@@ -98,25 +119,26 @@ impl ThreadedSession {
         out: &mut String,
     ) -> Result<(), Stop>
         ensures { (known : Known) → IsKnown self.old known →
-            Obeys (says_of known line.now) known self.new (string_bytes out.old) (string_bytes out.new) result }
+            Obeys known line.now self.new (string_bytes out.old) (string_bytes out.new) result }
     {
         let line = match read(self.may_come(), &self.names, line) {
             Ok(Some(line)) => line,
             Ok(None) => return Ok(()),
             Err(reason) => return Err(Stop::Bad(reason)),
         };
+        if let Some(words) = expected(line) {
+            return compare(alloc, &self.reply, &self.names, words);
+        }
         if is_taken(&self.threads, line) {
             return Err(Stop::Bad(Reason::NameTaken));
         }
-        let has_started = starts(line);
-        let Ok((name, made)) = carry_out(rt, alloc, &mut self.threads, &self.names, line, out)
-        else {
+        let mut printed = String::new(alloc);
+        let Ok(()) = self.run(rt, alloc, line, &mut printed) else {
             return Err(Stop::OutOfMemory);
         };
-        let Ok(()) = bind(alloc, &mut self.names, name, made) else {
+        let Ok(()) = out.push_str(printed.as_str()) else {
             return Err(Stop::OutOfMemory);
         };
-        self.started = has_started;
         Ok(())
     }
 
@@ -132,6 +154,9 @@ impl ThreadedSession {
         reason: Reason,
         line: &[u8],
     ) -> Result<(), AllocError> {
+        if reason == Reason::Unmet {
+            return self.reply.put_unmet(alloc, out, &self.names, line);
+        }
         put_advice(alloc, out, &self.names, reason, line)
     }
 }

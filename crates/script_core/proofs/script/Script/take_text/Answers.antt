@@ -6,7 +6,8 @@ use Rattle.script_core.specs.declared.script.Outcome.{Outcome}
 use Rattle.script_core.specs.declared.script.Outcome.TheVariants.{OutOfMemory}
 use Rattle.script_core.specs.Outcomes.{Answers, rest_of, fault_at}
 use Rattle.script_core.proofs.KeptLemmas.{stops, stops_long}
-use Rattle.script_core.proofs.ScriptLemmas.{appends_nothing, is_break, long_text, more_bytes}
+use Rattle.script_core.proofs.ScriptLemmas.{appends_nothing, long_text, more_bytes}
+use Rattle.script_lines.specs.Breaks.{is_break}
 use Rattle.script_core.proofs.script.Script.take_text.Goals as goal
 
 pub returns-then-text-saturating_sub-clause-took : goal.returns-then-text-saturating_sub-clause-took

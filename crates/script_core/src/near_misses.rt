@@ -1,0 +1,51 @@
+//! Words of a command line that are nearly right.
+
+/// A word as it was written, and the remedy. A `*` at the end stands for any text.
+const NEAR_MISSES: &[(&str, &str)] = &[
+    (
+        "--picture=*",
+        "'--picture' takes no file: it writes to standard output, as in './erldist --picture SCRIPT > FILE'",
+    ),
+    ("--threads=*", "write '--threads' alone"),
+    ("--check=*", "write '--check' and then the files"),
+    ("--json", "write '--trace=json'"),
+    ("--hex", "write '--trace'"),
+    ("--svg", "write '--picture'"),
+    ("-trace", "write '--trace'"),
+    ("-trace=json", "write '--trace=json'"),
+    ("-picture", "write '--picture'"),
+    ("-threads", "write '--threads'"),
+    ("-check", "write '--check'"),
+    ("-seed", "write '--seed N'"),
+];
+
+/// The remedy for a form of the trace that stands as a word of its own.
+const TRACE_FORM: &str =
+    "write '--trace=json', or '--trace' for hex; './json' is a script's file of that name";
+
+// Returns true if the word is the pattern.
+fn fits(pattern: &str, word: &str) -> bool {
+    match pattern.strip_suffix('*') {
+        Some(front) => word.starts_with(front),
+        None => word == pattern,
+    }
+}
+
+/// Returns the remedy for the first word that is nearly right, if there is one. The first word is the
+/// program's name.
+pub(crate) fn remedy_for(words: &[String]) -> Option<&'static str> {
+    let mut before = "";
+    for word in words.iter().skip(1) {
+        let word = word.as_str();
+        if before == "--trace" && (word == "json" || word == "hex") {
+            return Some(TRACE_FORM);
+        }
+        for (pattern, remedy) in NEAR_MISSES {
+            if fits(pattern, word) {
+                return Some(remedy);
+            }
+        }
+        before = word;
+    }
+    None
+}
