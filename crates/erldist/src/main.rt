@@ -1,35 +1,77 @@
 //! `erldist`: Erlang nodes in one process, driven by a script.
 //!
-//! The script comes on standard input, one command a line; its output goes to standard output.
-//! [`read_options`] reads the command line. [`run_script`] runs the script; [`run_telling`] writes its
-//! events instead, [`run_drawing`] a drawing of them, and [`run_threads`] gives its nodes threads.
+//! The script comes from a file or on standard input, one command a line. Its output goes to standard
+//! output. [`read_options`] reads the command line. [`run_script`] runs the script; [`run_telling`] writes its
+//! events instead, [`run_drawing`] a drawing of them, and [`run_threads`] gives its nodes threads. With
+//! `--check` scripts are run for their outcomes, which [`Tally`] counts.
 #![tactic(auto)]
 
 use clap::Error;
 use clap::error::ErrorKind;
 use script_core::{
-    Form, FusedWriter, Machine, Options, Outcome, read_options, run_drawing, run_script,
-    run_telling, run_threads,
+    CommandLine, Form, FusedWriter, Machine, Options, Outcome, STANDARD_INPUT, Tally, put_result,
+    read_options, run_drawing, run_script, run_telling, run_threads,
 };
 use std::alloc::Global;
-use std::io::{self, BufWriter};
+use std::fs;
+use std::io::{self, BufWriter, Read, Write};
 use std::process::ExitCode;
+use std::rt::Files;
 
 /// The exit status for a bad command line.
 const BAD_COMMAND_LINE: u8 = 2;
 
-/// Runs the script on standard input, and returns the exit status. Writes nothing after a failed write.
-fn run<R: Input + Print + Eprint + Machine>(rt: &R, alloc: Global, options: &Options) -> u8 {
+// Runs the script of a reader, and returns its outcome. Appends the fault of a bad line to `advice`.
+fn run<M: Machine, R: Read, W: Write>(
+    rt: &M,
+    alloc: Global,
+    reader: &mut R,
+    writer: &mut W,
+    options: &Options,
+    advice: &mut String,
+) -> Outcome {
+    match options.form {
+        Form::Text => run_script(alloc, reader, writer, options, advice),
+        Form::Events => run_telling(alloc, reader, writer, options, advice),
+        Form::Picture => run_drawing(alloc, reader, writer, options, advice),
+        Form::Threads => run_threads(rt, alloc, reader, writer, options, advice),
+    }
+}
+
+// Runs the script of a file, or of standard input for the path `-`. A fault of the file is an error.
+fn run_file<R: Input + Files + Machine, W: Write>(
+    rt: &R,
+    alloc: Global,
+    path: &str,
+    writer: &mut W,
+    options: &Options,
+    advice: &mut String,
+) -> io::Result<Outcome> {
+    if path == STANDARD_INPUT {
+        let mut reader = rt.reader();
+        return Ok(run(rt, alloc, &mut reader, writer, options, advice));
+    }
+    let mut reader = fs::open(rt, path)?;
+    Ok(run(rt, alloc, &mut reader, writer, options, advice))
+}
+
+/// Runs one script, and returns the exit status. Writes nothing after a failed write.
+fn run_one<R: Input + Files + Print + Eprint + Machine>(
+    rt: &R,
+    alloc: Global,
+    path: &str,
+    options: &Options,
+) -> u8 {
     let Ok(mut writer) = BufWriter::new(alloc, FusedWriter::new(io::writer(rt))) else {
         return Outcome::OutOfMemory.status();
     };
     let mut advice = String::new(alloc);
-    let mut reader = rt.reader();
-    let outcome = match options.form {
-        Form::Text => run_script(alloc, &mut reader, &mut writer, options, &mut advice),
-        Form::Events => run_telling(alloc, &mut reader, &mut writer, options, &mut advice),
-        Form::Picture => run_drawing(alloc, &mut reader, &mut writer, options, &mut advice),
-        Form::Threads => run_threads(rt, alloc, &mut reader, &mut writer, options, &mut advice),
+    let outcome = match run_file(rt, alloc, path, &mut writer, options, &mut advice) {
+        Ok(outcome) => outcome,
+        Err(fault) => {
+            let _ = eprintln!(rt; "erldist: {path} can't be read: {fault}");
+            return Outcome::Failed.status();
+        }
     };
     if let Outcome::BadLine(line, reason) = outcome {
         let _ = if advice.is_empty() {
@@ -39,6 +81,63 @@ fn run<R: Input + Print + Eprint + Machine>(rt: &R, alloc: Global, options: &Opt
         };
     }
     outcome.status()
+}
+
+// Runs one script for its outcome, and prints a line about it.
+fn check_one<R: Input + Files + Print + Machine>(
+    rt: &R,
+    alloc: Global,
+    path: &str,
+    options: &Options,
+    tally: &mut Tally,
+) -> Result<(), Outcome> {
+    let mut advice = String::new(alloc);
+    let ran = run_file(rt, alloc, path, &mut io::sink(), options, &mut advice);
+    let outcome = ran.unwrap_or(Outcome::Failed);
+    tally.count(outcome);
+    let mut text = String::new(alloc);
+    let Ok(()) = put_result(&mut text, path, outcome, advice.as_str()) else {
+        return Err(Outcome::OutOfMemory);
+    };
+    match println!(rt; "{text}") {
+        Ok(()) => Ok(()),
+        Err(_) => Err(Outcome::Failed),
+    }
+}
+
+/// Runs each script for its outcome, prints a line about each and their number, and returns the exit status.
+fn check<R: Input + Files + Print + Machine>(
+    rt: &R,
+    alloc: Global,
+    files: &[&str],
+    options: &Options,
+) -> u8 {
+    let mut tally = Tally::new();
+    for path in files {
+        if let Err(outcome) = check_one(rt, alloc, path, options, &mut tally) {
+            return outcome.status();
+        }
+    }
+    let Tally { passed, failed } = tally;
+    match println!(rt; "{passed} passed, {failed} failed") {
+        Ok(()) => tally.status(),
+        Err(_) => Outcome::Failed.status(),
+    }
+}
+
+/// Carries out the command line, and returns the exit status.
+fn carry_out<R: Input + Files + Print + Eprint + Machine>(
+    rt: &R,
+    alloc: Global,
+    line: &CommandLine<'_>,
+) -> u8 {
+    if line.check {
+        return check(rt, alloc, &line.files, &line.options);
+    }
+    match line.files.first() {
+        Some(path) => run_one(rt, alloc, path, &line.options),
+        None => Outcome::Ran.status(),
+    }
 }
 
 /// Prints the fault for which the command line can't be read, and returns the exit status.
@@ -73,7 +172,7 @@ fn main(rt: HostRuntime) -> ExitCode {
         Err(_) => return ExitCode::from(Outcome::OutOfMemory.status()),
     };
     ExitCode::from(match read_options(alloc, words.as_slice()) {
-        Ok(options) => run(&rt, alloc, &options),
+        Ok(line) => carry_out(&rt, alloc, &line),
         Err(fault) => answered(&rt, &fault),
     })
 }

@@ -1,10 +1,10 @@
 //! The session of a script.
-ghost use Rattle.std.specs.Prelude.{◌≡◌, [], true, false, None, Ok, IfOk, OnOk, string_bytes};
-ghost use Rattle.script_lines.specs.Replies.{is_met};
+ghost use Rattle.std.specs.Prelude.{◌≡◌, [], true, false, None, IfOk, OnOk, string_bytes};
+ghost use Rattle.script_lines.specs.Replies.{is_met, reply_after};
 ghost use Rattle.script_lines.specs.Said.{said};
-ghost use Rattle.script_session.specs.Session.{State, binds, does, fresh_state, is_taken, may_come, new_name, plays, starts};
+ghost use Rattle.script_session.specs.Session.{State, binds, fresh_state, is_taken, may_come, new_name, plays, starts};
 ghost use Rattle.script_session.specs.Stage.{Stage as TheStage};
-ghost use Rattle.script_session.specs.Stands.{Compares, IsOpening, IsStage, IsSession, Obeys, Plays, Steps};
+ghost use Rattle.script_session.specs.Stands.{Compares, IsOpening, IsStage, IsSession, Obeys, Plays};
 ghost use Rattle.script_session.specs.Telling.{IsDrawing, IsTaken};
 ghost use Rattle.script_terms.specs.Binding.{Knows, Look};
 ghost use Rattle.world_core.specs.Names.{names_of};
@@ -130,23 +130,23 @@ impl Session {
         }
     }
 
-    // Runs a command, whose line has this text, and appends its output to `out`, which is empty.
-    fn run(
+    // Binds the name of a command that has run, and takes its output as the last reply.
+    fn keep(
         &mut self,
         alloc: Global,
-        text: &[u8],
-        line: Line,
-        out: &mut String,
+        named: (String, Made),
+        has_started: bool,
+        printed: &str,
     ) -> Result<(), AllocError>
-        requires { is_taken (said line.entry) (names_of self.old.stage.world.nodes.items) ≡ false }
-        requires { string_bytes out.old ≡ [] }
-        ensures { (state : State) → IsSession self.old state → (starts (said line.entry) ≡ false → IsOpening state.stage.world) →
-            OnOk result (Steps (Ok (does (said line.entry) state)) self.new [] (string_bytes out.new)) }
+        ensures names { (look : Look) → Knows self.old.names look → OnOk result (Knows self.new.names (binds (string_bytes named.0) named.1 look)) }
+        ensures reply { OnOk result (self.new.reply.line.items ≡ reply_after printed.now self.old.reply.line.items) }
+        ensures started { OnOk result (self.new.started ≡ has_started) }
+        ensures stage { self.new.stage ≡ self.old.stage }
     {
-        let (name, made) = carry_out(alloc, &mut self.stage, &self.names, text, line, out)?;
+        let (name, made) = named;
         bind(alloc, &mut self.names, name, made)?;
-        self.reply.follow(out.as_bytes())?;
-        self.started = starts(line);
+        self.reply.follow(printed.as_bytes())?;
+        self.started = has_started;
         Ok(())
     }
 
@@ -170,8 +170,13 @@ impl Session {
         if is_taken(&self.stage, line) {
             return Err(Stop::Bad(Reason::NameTaken));
         }
+        let has_started = starts(line);
+        let (stage, names) = (&mut self.stage, &self.names);
         let mut printed = String::new(alloc);
-        let Ok(()) = self.run(alloc, text, line, &mut printed) else {
+        let Ok(named) = carry_out(alloc, stage, names, text, line, &mut printed) else {
+            return Err(Stop::OutOfMemory);
+        };
+        let Ok(()) = self.keep(alloc, named, has_started, printed.as_str()) else {
             return Err(Stop::OutOfMemory);
         };
         let Ok(()) = out.push_str(printed.as_str()) else {

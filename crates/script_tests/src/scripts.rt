@@ -1,6 +1,7 @@
 //! Scripts written by hand, and what they print.
 use script_core::{
-    Form, FusedWriter, Options, Outcome, Reason, read_options, run_drawing, run_script, run_telling,
+    Form, FusedWriter, Options, Outcome, Reason, Tally, put_result, read_options, run_drawing,
+    run_script, run_telling,
 };
 use std::alloc::{AllocError, Global};
 use std::io::{self, BufWriter, ErrorKind, Read, Write};
@@ -429,11 +430,74 @@ fn one_failed_write(rt: HostRuntime) -> Result<(), Fail> {
     Ok(())
 }
 
+/// Scripts that expect replies, and their outcomes.
+const EXPECTING: [(&str, Outcome); 14] = [
+    ("node a@h c\nexpect up a@h 1\nnode b@h c\nexpect up b@h 1", Outcome::Ran),
+    ("node a@h c\nspawn a@h p\nexpect $p\nexpect   <a@h.1.0.1>  ", Outcome::Ran),
+    ("pair\nlink p q\nexpect done\n# a comment\n\nexpect done\nends p q\nexpect ends active none\n", Outcome::Ran),
+    (
+        "node a@h c\nspawn a@h p\nspawn a@h q\nmonitor p q m\nexpect $m\nsettle\ndie q x\nsettle\nreceive p\nexpect message {'DOWN',$m,process,$q,x}",
+        Outcome::Ran,
+    ),
+    ("node a@h c\nspawn a@h p\nsend p p '$p'\nsettle\nreceive p\nexpect message '$p'", Outcome::Ran),
+    ("node a@h c\nshow\nexpect node a@h up 1", Outcome::Ran),
+    ("node a@h c\nexpect up a@h", Outcome::BadLine(2, Reason::Unmet)),
+    ("node a@h c\nexpect up a@h 1 1", Outcome::BadLine(2, Reason::Unmet)),
+    ("expect done", Outcome::BadLine(1, Reason::Unmet)),
+    ("pair\nexpect done\nexpect other", Outcome::BadLine(2, Reason::Unmet)),
+    ("pair\nlink p q\nexpect done\nlink p q\nexpect other\nexpect more", Outcome::BadLine(5, Reason::Unmet)),
+    ("node a@h c\nspawn a@h p\nexpect '$p'", Outcome::BadLine(3, Reason::Unmet)),
+    ("node a@h c\nexpect up $nope", Outcome::BadLine(2, Reason::UnknownName)),
+    ("node a@h c\nexpect  ", Outcome::BadLine(2, Reason::WrongWords)),
+];
+
+/// Returns the outcome of a script, and the fault of the line at which it ends.
+fn ended(alloc: Global, script: &str) -> (Outcome, String) {
+    let mut advice = String::new(alloc);
+    let mut reader = script.as_bytes();
+    let outcome = run_script(alloc, &mut reader, &mut io::sink(), &OPTIONS, &mut advice);
+    (outcome, advice)
+}
+
+#[test]
+fn expectations(rt: HostRuntime) {
+    for (script, wanted) in EXPECTING {
+        let (outcome, _) = ended(rt.alloc(), script);
+        assert_eq!(rt; outcome, wanted, "{script}");
+    }
+    let (_, advice) = ended(rt.alloc(), "pair\nends p q\nexpect ends $p $q");
+    let wanted = "the reply isn't the line that was expected\n  expected: ends <a@h.1.0.1> <b@h.1.0.1>\n  but came: ends none none";
+    assert_eq!(rt; advice.as_str(), wanted);
+}
+
+/// A line of `--check`: the outcome, the advice, and the text.
+const CHECKED: [(Outcome, &str, &str); 4] = [
+    (Outcome::Ran, "", "passed story"),
+    (Outcome::BadLine(7, Reason::Unmet), "as told", "failed story: line 7: not met: as told"),
+    (Outcome::BadLine(7, Reason::BadName), "", "failed story: line 7: bad name"),
+    (Outcome::Unmerged, "", "failed story: the histories of its nodes don't merge"),
+];
+
+#[test]
+fn checks(rt: HostRuntime) -> Result<(), Fail> {
+    let mut tally = Tally::new();
+    assert_eq!(rt; tally.status(), 0);
+    for (outcome, advice, wanted) in CHECKED {
+        let mut text = String::new(rt.alloc());
+        put_result(&mut text, "story", outcome, advice)?;
+        assert_eq!(rt; text.as_str(), wanted);
+        tally.count(outcome);
+    }
+    assert_eq!(rt; (tally.passed, tally.failed, tally.status()), (1, 3, 7));
+    Ok(())
+}
+
 #[test]
 fn statuses(rt: HostRuntime) {
     for (outcome, status) in [
         (Outcome::Ran, 0),
         (Outcome::BadLine(1, Reason::BadName), 3),
+        (Outcome::BadLine(1, Reason::Unmet), 7),
         (Outcome::OutOfMemory, 4),
         (Outcome::Failed, 6),
     ] {
@@ -448,11 +512,14 @@ fn options(alloc: Global, words: &[&str]) -> Result<Result<Options, i32>, AllocE
     for word in words {
         given.push(String::from_str(alloc, word)?)?;
     }
-    Ok(read_options(alloc, given.as_slice()).map_err(|error| error.exit_code()))
+    Ok(match read_options(alloc, given.as_slice()) {
+        Ok(line) => Ok(line.options),
+        Err(error) => Err(error.exit_code()),
+    })
 }
 
 /// Command lines, and what they ask for: the trace, what is written in place of the text, and the seed.
-const GOOD_WORDS: [(&[&str], bool, Form, u32); 8] = [
+const GOOD_WORDS: [(&[&str], bool, Form, u32); 10] = [
     (&[], false, Form::Text, 1),
     (&["--seed", "7"], false, Form::Text, 7),
     (&["--seed=4294967295"], false, Form::Text, 4_294_967_295),
@@ -461,10 +528,12 @@ const GOOD_WORDS: [(&[&str], bool, Form, u32); 8] = [
     (&["--seed", "0", "--trace=json"], false, Form::Events, 0),
     (&["--picture"], false, Form::Picture, 1),
     (&["--picture", "--seed", "3"], false, Form::Picture, 3),
+    (&["--trace", "script", "--seed", "3"], true, Form::Text, 3),
+    (&["--check", "one", "other", "--threads"], false, Form::Threads, 1),
 ];
 
 /// Others, and the status that they are refused with.
-const OTHER_WORDS: [(&[&str], i32); 13] = [
+const OTHER_WORDS: [(&[&str], i32); 15] = [
     (&["--trace", "json"], 2),
     (&["--trace=xml"], 2),
     (&["--picture", "--trace"], 2),
@@ -473,7 +542,9 @@ const OTHER_WORDS: [(&[&str], i32); 13] = [
     (&["--seed", "4294967296"], 2),
     (&["--seed", "-1"], 2),
     (&["--seed"], 2),
-    (&["script"], 2),
+    (&["one", "other"], 2),
+    (&["--check", "--trace"], 2),
+    (&["-picture"], 2),
     (&["--fast"], 2),
     (&["--threads", "--picture"], 2),
     (&["--help"], 0),

@@ -2,9 +2,10 @@
 ghost use Rattle.std.specs.Prelude.{◌≡◌, [], IfOk, OnOk, None, false, string_bytes};
 ghost use Rattle.dist_books.specs.Acting.{names_of};
 ghost use Rattle.script_lines.specs.Said.{said};
-ghost use Rattle.script_session.specs.Session.{is_taken, new_name};
+ghost use Rattle.script_lines.specs.Replies.{reply_after};
+ghost use Rattle.script_session.specs.Session.{binds, is_taken, new_name};
 ghost use Rattle.script_terms.specs.Binding.{Knows, Look};
-ghost use Rattle.script_threads.specs.Standing.{IsKnown, Known, MayCome, Obeys, Ran, may_come, nodes_after, nodes_of};
+ghost use Rattle.script_threads.specs.Standing.{IsKnown, Known, MayCome, Obeys, may_come, nodes_after, nodes_of};
 
 use crate::advice::put_advice;
 use crate::nodes::has_name;
@@ -86,22 +87,23 @@ impl ThreadedSession {
         }
     }
 
-    // Runs a command, and appends its output to `out`, which is empty.
-    fn run<R: Machine>(
+    // Binds the name of a command that has run, and takes its output as the last reply.
+    fn keep(
         &mut self,
-        rt: &R,
         alloc: Global,
-        line: Line,
-        out: &mut String,
+        named: (String, Made),
+        has_started: bool,
+        printed: &str,
     ) -> Result<(), AllocError>
-        requires { string_bytes out.old ≡ [] }
-        ensures { (known : Known) → IsKnown self.old known → MayCome (said line.entry) self.old.threads.cast →
-            OnOk result (Ran (said line.entry) known self.new (string_bytes out.new)) }
+        ensures names { (look : Look) → Knows self.old.names look → OnOk result (Knows self.new.names (binds (string_bytes named.0) named.1 look)) }
+        ensures reply { OnOk result (self.new.reply.line.items ≡ reply_after printed.now self.old.reply.line.items) }
+        ensures started { OnOk result (self.new.started ≡ has_started) }
+        ensures threads { self.new.threads ≡ self.old.threads }
     {
-        let (name, made) = carry_out(rt, alloc, &mut self.threads, &self.names, line, out)?;
+        let (name, made) = named;
         bind(alloc, &mut self.names, name, made)?;
-        self.reply.follow(out.as_bytes())?;
-        self.started = starts(line);
+        self.reply.follow(printed.as_bytes())?;
+        self.started = has_started;
         Ok(())
     }
 
@@ -132,8 +134,13 @@ impl ThreadedSession {
         if is_taken(&self.threads, line) {
             return Err(Stop::Bad(Reason::NameTaken));
         }
+        let has_started = starts(line);
+        let (threads, names) = (&mut self.threads, &self.names);
         let mut printed = String::new(alloc);
-        let Ok(()) = self.run(rt, alloc, line, &mut printed) else {
+        let Ok(named) = carry_out(rt, alloc, threads, names, line, &mut printed) else {
+            return Err(Stop::OutOfMemory);
+        };
+        let Ok(()) = self.keep(alloc, named, has_started, printed.as_str()) else {
             return Err(Stop::OutOfMemory);
         };
         let Ok(()) = out.push_str(printed.as_str()) else {

@@ -285,7 +285,7 @@ fn reads(alloc: Global, words: &[&str], wanted: Option<(Form, bool)>) -> Result<
         owned.push(String::from_str(alloc, word)?)?;
     }
     Ok(match read_options(alloc, &owned) {
-        Ok(options) => wanted == Some((options.form, options.trace)),
+        Ok(line) => wanted == Some((line.options.form, line.options.trace)),
         Err(fault) => wanted.is_none() && fault.exit_code() == 2,
     })
 }
