@@ -1,8 +1,12 @@
-use Rattle.std.proofs.Common.{Ok, Some, None, Option, ap, string_bytes, sym, ◌∙◌}
+use Rattle.std.proofs.Common.{◌≡◌, ℕ, List, [], ◌++◌, Ok, Some, None, Option, Result, ap, string_bytes, subst, sym, ◌∙◌}
+use Rattle.std.specs.Option.{option_copied}
+use Rattle.script_lines.specs.Replies.{expected, is_met, reply_after}
 use Rattle.script_lines.specs.Said.{said}
 use Rattle.script_lines.specs.declared.line.Line.{Line}
-use Rattle.script_session.specs.Session.{does, is_taken}
-use Rattle.script_session.proofs.LineOutcomes.{behind, compared, early, passed, reads, runs, taken}
+use Rattle.script_session.specs.Session.{Step, does, is_taken, line_does, plays}
+use Rattle.script_session.specs.Stands.{Compares, Plays, Steps}
+use Rattle.script_session.specs.declared.stage.Stage.{Stage}
+use Rattle.script_session.proofs.LineOutcomes.{behind, compared, early, passed, ran, reads, runs}
 use Rattle.script_session.proofs.session.Session.line.Goals as goal
 
 pub returns-in-Ok-None : goal.returns-in-Ok-None
@@ -10,3 +14,47 @@ returns-in-Ok-None c = λ state h.
     passed c.args.self.now state c.args.line.now (string_bytes c.args.out.now) h
     (reads state c.may_come.result c.args.line.now c.read_line.result (Ok None) (c.may_come.ensures state h)
     (c.in-Ok-None.is ∙ ap (λ (o : Option Line). Ok o) c.in-Ok-None.field-0-is) (c.read_line.ensures state.names h.names))
+
+pub returns-in-Some : goal.returns-in-Some
+returns-in-Some c = λ state h.
+    let it = said c.in-Ok-Some.line in
+    let words = c.in-Some.words.now in
+    let says =
+    reads state c.may_come.result c.args.line.now c.read_line.result (Ok (Some c.in-Ok-Some.line))
+    (c.may_come.ensures state h) (c.in-Ok-Some.is ∙ ap (λ (o : Option Line). Ok o) c.in-Ok-Some.field-0-is)
+    (c.read_line.ensures state.names h.names) in
+    let wants : expected it ≡ Some words = sym c.expected.ensures ∙ ap option_copied c.in-Some.is in
+    compared c.args.self.now state c.args.line.now (string_bytes c.args.out.now) it words c.compare.result h says wants
+    (subst (λ (r : List ℕ). Compares (is_met state.names r words) c.compare.result) h.reply (c.compare.ensures state.names h.names))
+
+pub returns : goal.returns
+returns c = λ state h.
+    let it = said c.in-Ok-Some.line in
+    let line = c.args.line.now in
+    let out = string_bytes c.args.out.now in
+    let printed = string_bytes c.carry_out.new.out in
+    let new = c.keep.new.self in
+    let made = c.in-Ok.named.1 in
+    let says =
+    reads state c.may_come.result line c.read_line.result (Ok (Some c.in-Ok-Some.line))
+    (c.may_come.ensures state h) (c.in-Ok-Some.is ∙ ap (λ (o : Option Line). Ok o) c.in-Ok-Some.field-0-is)
+    (c.read_line.ensures state.names h.names) in
+    let none : expected it ≡ None = sym c.expected.ensures ∙ ap option_copied c.in_default.is in
+    let free = ap (is_taken it) h.stage.world.names ∙ sym c.is_taken.ensures ∙ c.if-is_taken.false in
+    let opens = early c.args.self.now state line it h says in
+    let scene = plays state.names it state.stage in
+    let played : Plays scene c.carry_out.new.stage [] printed made =
+    subst (λ (t : List ℕ). Plays scene c.carry_out.new.stage t printed made) c.new-printed.ensures.bytes
+    (c.in-Ok.ensures.played state.stage state.names h.stage h.names opens) in
+    let staged : Plays scene new.stage [] printed made =
+    subst (λ (s : Stage). Plays scene s [] printed made) (sym c.in-Ok-keep.ensures.stage) played in
+    let replied : new.reply.line.items ≡ reply_after printed c.args.self.now.reply.line.items =
+    c.in-Ok-keep.ensures.reply ∙ ap (λ (t : List ℕ). reply_after t c.args.self.now.reply.line.items) c.as_str.ensures.value in
+    let steps =
+    ran c.args.self.now new state it (string_bytes c.in-Ok.named.0) made printed h opens staged
+    c.in-Ok.ensures.name (c.in-Ok-keep.ensures.names state.names h.names) replied
+    (c.in-Ok-keep.ensures.started ∙ c.starts-has_started.ensures) in
+    let whole : string_bytes c.push_str.new.self ≡ out ++ printed =
+    c.in-Ok-push_str.ensures.bytes ∙ ap (λ (t : List ℕ). out ++ t) c.as_str-2.ensures.value in
+    subst (λ (t : List ℕ). Steps (line_does state line) new out t) (sym whole)
+    (behind (Ok (does it state)) new out printed (line_does state line) (runs state line it says none free) steps)
