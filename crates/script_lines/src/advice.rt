@@ -1,11 +1,12 @@
 //! The advice on a bad line.
 use crate::advised_words::put_word;
 use crate::naming::atom_read;
+use crate::places::{behind_words, column_of, first_unbound};
 use crate::reason::Reason;
+use crate::term_faults::{TERMS, atom_fault_in, fault_in};
 use crate::usages::{nearest, usage_of};
-use crate::words::{atom_and_text, first_word, words_and_text};
 use erl_names::NodeName;
-use script_terms::{Named, Names, is_name};
+use script_terms::{Named, Names, is_name, split_at_space};
 use std::alloc::{AllocError, Global};
 
 /// The remedy for a tab in a line.
@@ -178,29 +179,16 @@ fn put_unknown_name(
     put_unbound(out, names, text)
 }
 
-/// Returns the letters, digits and '_' at the front of a text.
-fn word_at(text: &str) -> &str {
-    let is_letter = |c: char| c.is_ascii_alphanumeric() || c == '_';
-    match text.find(|c: char| !is_letter(c)) {
-        Some(end) => text.get(..end).unwrap_or(""),
-        None => text,
-    }
-}
-
 // Appends the first name behind a '$' of a term that no line has given. Text in quotes has no such name.
 fn put_unbound(out: &mut String, names: &Names, text: &str) -> Result<(), AllocError> {
-    for part in text.split('\'').step_by(2) {
-        for behind in part.split('$').skip(1) {
-            let word = word_at(behind);
-            if names.get(word).is_none() {
-                put_word(out, word)?;
-                return out.push_str(
-                    " behind a '$' is no name of a process or a monitor; 'spawn NODE name' names a process, and 'monitor p q name' a monitor",
-                );
-            }
-        }
-    }
-    Ok(())
+    let Some((column, name)) = first_unbound(names, text) else {
+        return Ok(());
+    };
+    write!(out, "column {column}: ")?;
+    put_word(out, name)?;
+    out.push_str(
+        " behind a '$' is no name of a process or a monitor; 'spawn NODE name' names a process, and 'monitor p q name' a monitor",
+    )
 }
 
 fn put_name_taken(out: &mut String, usage: &str, text: &str) -> Result<(), AllocError> {
@@ -219,19 +207,9 @@ fn put_name_taken(out: &mut String, usage: &str, text: &str) -> Result<(), Alloc
     }
 }
 
-/// Returns true if the text between NODE and TERM is no atom. Refuses a line with too few words.
-fn has_bad_atom(names: &Names, text: &str) -> Result<bool, Reason> {
-    let (_, rest) = first_word(text);
-    let (_, _, rest) = words_and_text(rest)?;
-    let (atom, _) = atom_and_text(rest)?;
-    Ok(atom_read(names, atom).is_err())
-}
-
-/// Returns true if a bad term stands in the place of an ATOM.
-fn is_bad_atom(names: &Names, usage: &str, text: &str) -> bool {
-    usage.ends_with(" ATOM")
-        || usage.ends_with(" ATOM name")
-        || usage.ends_with(" ATOM TERM") && matches!(has_bad_atom(names, text), Ok(true))
+/// Returns true if a word of a usage stands for a text.
+fn is_text(word: &str) -> bool {
+    word == "ATOM" || word == "TERM"
 }
 
 fn put_bad_term(
@@ -240,12 +218,39 @@ fn put_bad_term(
     usage: &str,
     text: &str,
 ) -> Result<(), AllocError> {
-    out.push_str(if is_bad_atom(names, usage, text) {
-        "an atom is a lower-case letter, then letters, digits, '_' and '@', or text in quotes, as 'two words', of 255 characters at most"
+    let words = usage.split(' ').take_while(|word| !is_text(word)).count();
+    let rest = behind_words(text, words);
+    let (atom, behind) = if usage.ends_with(" ATOM") {
+        (rest, "")
     } else {
-        "a term is an integer, an atom, '{..}', '[..]', '<<..>>' or '$name', with no spaces outside quotes"
-    })?;
+        split_at_space(rest)
+    };
+    if !usage.contains(" ATOM") {
+        put_fault(out, text, rest)?;
+    } else if atom_read(names, atom.trim_end_matches(' ')).is_err() {
+        put_atom_fault(out, text, rest, atom)?;
+    } else {
+        put_fault(out, text, behind)?;
+    }
     put_line_end(out, text)
+}
+
+/// Appends the first fault of a bad term, the `end` of the line.
+fn put_fault(out: &mut String, line: &str, end: &str) -> Result<(), AllocError> {
+    let term = end.trim_start_matches(' ');
+    match fault_in(term.trim_end_matches(' '), column_of(line, term)) {
+        Some(fault) => write!(out, "{fault}"),
+        None => out.push_str(TERMS),
+    }
+}
+
+/// Appends the column of the first fault of a bad `atom`, with which the `end` of the line begins.
+fn put_atom_fault(out: &mut String, line: &str, end: &str, atom: &str) -> Result<(), AllocError> {
+    let column = atom_fault_in(atom.trim_end_matches(' '), column_of(line, end));
+    write!(
+        out,
+        "column {column}: an atom is a lower-case letter, then letters, digits, '_' and '@', or text in quotes, as 'two words', of 255 characters at most"
+    )
 }
 
 /// Appends the remedy for a line that ends with a carriage return.

@@ -15,9 +15,12 @@ mod command;
 mod laws;
 mod line;
 mod naming;
+mod places;
 mod reading;
 mod reason;
 mod reply;
+mod term_faults;
+mod term_scan;
 mod usages;
 mod words;
 

@@ -224,8 +224,8 @@ pub(crate) fn names_bound(names: &Names, text: &str) -> Result<(), Reason>
     Ok(())
 }
 
-// Returns true if `text` begins as an atom does, and no other term.
-fn begins_atom(text: &[u8]) -> bool
+/// Returns true if `text` begins as an atom does, and no other term.
+pub(crate) fn begins_atom(text: &[u8]) -> bool
     ensures { result ≡ begins_atom text.now }
 {
     match text {

@@ -13,4 +13,6 @@ mod rows;
 #[cfg(test)]
 mod scripts;
 #[cfg(test)]
+mod term_faults;
+#[cfg(test)]
 mod terms;

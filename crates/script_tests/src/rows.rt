@@ -231,7 +231,7 @@ const ADVICE: [(&str, &str); 34] = [
     ),
     (
         "pair\nsend p q {'$none',$nope}\n",
-        "'nope' behind a '$' is no name of a process or a monitor; 'spawn NODE name' names a process, and 'monitor p q name' a monitor",
+        "column 19: 'nope' behind a '$' is no name of a process or a monitor; 'spawn NODE name' names a process, and 'monitor p q name' a monitor",
     ),
     ("whereas", "'whereas'; did you mean 'whereis'?"),
     (
@@ -240,7 +240,7 @@ const ADVICE: [(&str, &str); 34] = [
     ),
     (
         "pair\nregister p Srv\n",
-        "an atom is a lower-case letter, then letters, digits, '_' and '@', or text in quotes, as 'two words', of 255 characters at most",
+        "column 12: an atom is a lower-case letter, then letters, digits, '_' and '@', or text in quotes, as 'two words', of 255 characters at most",
     ),
     (
         "whereis a srv",
@@ -264,15 +264,15 @@ const ADVICE: [(&str, &str); 34] = [
     ),
     (
         "pair\nsendname p a@h srv $nope",
-        "'nope' behind a '$' is no name of a process or a monitor; 'spawn NODE name' names a process, and 'monitor p q name' a monitor",
+        "column 20: 'nope' behind a '$' is no name of a process or a monitor; 'spawn NODE name' names a process, and 'monitor p q name' a monitor",
     ),
     (
         "pair\nsendname p a@h Srv hi",
-        "an atom is a lower-case letter, then letters, digits, '_' and '@', or text in quotes, as 'two words', of 255 characters at most",
+        "column 16: an atom is a lower-case letter, then letters, digits, '_' and '@', or text in quotes, as 'two words', of 255 characters at most",
     ),
     (
         "pair\nsendname p a@h 'two words' Hi",
-        "a term is an integer, an atom, '{..}', '[..]', '<<..>>' or '$name', with no spaces outside quotes",
+        "column 28: variables are none of the terms: write $name, or an atom as 'Foo' in quotes",
     ),
     (
         "pair\nmonitorname p a@h 'two words'",
@@ -296,7 +296,7 @@ const ADVICE: [(&str, &str); 34] = [
     ),
     (
         "pair\nmonitorname p a@h Srv m",
-        "an atom is a lower-case letter, then letters, digits, '_' and '@', or text in quotes, as 'two words', of 255 characters at most",
+        "column 19: an atom is a lower-case letter, then letters, digits, '_' and '@', or text in quotes, as 'two words', of 255 characters at most",
     ),
     (
         "\tpair\n",

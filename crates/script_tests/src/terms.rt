@@ -6,7 +6,7 @@ use std::test::*;
 
 /// The outcome of reading a text and printing the term.
 #[derive(Clone, Copy, Debug)]
-enum Printed {
+pub enum Printed {
     /// This text.
     As(&'static str),
     /// The very text that was read.
@@ -19,7 +19,8 @@ enum Printed {
 
 use Printed::{As, BadTerm, Same, UnknownName};
 
-const TERMS: [(&str, Printed); 62] = [
+/// Texts, and the outcome of each.
+pub const TERMS: [(&str, Printed); 62] = [
     ("0", Same),
     ("-0", As("0")),
     ("007", As("7")),
