@@ -10,11 +10,24 @@ const LATER: MayCome = MayCome {
     node: false,
 };
 
-/// Returns the advice on a line that is a bad one for this reason. The line need not be one.
+/// Returns the advice on a line, as on a bad one for this reason.
 fn advice(alloc: Global, names: &Names, reason: Reason, line: &str) -> Result<String, AllocError> {
     let mut advice = String::new(alloc);
     put_advice(alloc, &mut advice, names, reason, line.as_bytes())?;
     Ok(advice)
+}
+
+/// Returns true if a line is a bad one for this reason, and `wanted` is the advice on it.
+fn is_advised(
+    alloc: Global,
+    names: &Names,
+    reason: Reason,
+    line: &str,
+    wanted: &str,
+) -> Result<bool, AllocError> {
+    let read = read_line(LATER, names, line.as_bytes()).err();
+    let advice = advice(alloc, names, reason, line)?;
+    Ok(read == Some(reason) && advice.as_str() == wanted)
 }
 
 /// Lines with a term that isn't one of a script's but of Erlang's, or nearly one, and the advice.
@@ -337,14 +350,85 @@ const LONG_TERMS: [(&str, &str, usize, &str, usize, &str); 9] = [
     ),
 ];
 
+/// Returns true if the advice on a bad ATOM is that of this column.
+fn atom_is_advised(
+    alloc: Global,
+    names: &Names,
+    line: &str,
+    column: usize,
+) -> Result<bool, AllocError> {
+    let wanted = format!(in alloc;
+        "column {column}: an atom is a lower-case letter, then letters, digits, '_' and '@', or text in quotes, as 'two words', of 255 characters at most"
+    )?;
+    is_advised(alloc, names, Reason::BadTerm, line, wanted.as_str())
+}
+
+/// Returns true if the advice on an unknown name is that of this name and column.
+fn name_is_advised(
+    alloc: Global,
+    names: &Names,
+    line: &str,
+    name: &str,
+    column: usize,
+) -> Result<bool, AllocError> {
+    let wanted = format!(in alloc;
+        "column {column}: '{name}' behind a '$' is no name of a process or a monitor; 'spawn NODE name' names a process, and 'monitor p q name' a monitor"
+    )?;
+    is_advised(alloc, names, Reason::UnknownName, line, wanted.as_str())
+}
+
+/// Returns a line with a long term.
+fn long_line(
+    alloc: Global,
+    before: &str,
+    repeated: &str,
+    count: usize,
+    behind: &str,
+) -> Result<String, AllocError> {
+    let mut line = String::from_str(alloc, "send p p ")?;
+    line.push_str(before)?;
+    for _ in 0..count {
+        line.push_str(repeated)?;
+    }
+    line.push_str(behind)?;
+    Ok(line)
+}
+
+/// Returns true if the advice on a line is that of this column and cause.
+fn cause_is_advised(
+    alloc: Global,
+    names: &Names,
+    line: &str,
+    column: usize,
+    cause: &str,
+) -> Result<bool, AllocError> {
+    let wanted = format!(in alloc; "column {column}: {cause}")?;
+    is_advised(alloc, names, Reason::BadTerm, line, wanted.as_str())
+}
+
+/// Returns true if a column is told of a text, as of a bad term.
+fn has_column(alloc: Global, names: &Names, text: &str) -> Result<bool, AllocError> {
+    let line = format!(in alloc; "send p p {text}")?;
+    let advice = advice(alloc, names, Reason::BadTerm, line.as_str())?;
+    Ok(advice.starts_with("column "))
+}
+
 #[test]
-fn bad_terms(rt: HostRuntime) -> Result<(), Fail> {
+fn other_terms(rt: HostRuntime) -> Result<(), Fail> {
     let names = names(rt.alloc())?;
-    for (line, wanted) in OTHER_TERMS.iter().chain(BROKEN_TERMS.iter()) {
-        let reason = read_line(LATER, &names, line.as_bytes()).err();
-        assert!(rt; reason == Some(Reason::BadTerm), "{line}");
-        let advice = advice(rt.alloc(), &names, Reason::BadTerm, line)?;
-        assert!(rt; advice.as_str() == *wanted, "{line}: {advice}");
+    for (line, wanted) in OTHER_TERMS {
+        let is_so = is_advised(rt.alloc(), &names, Reason::BadTerm, line, wanted)?;
+        assert!(rt; is_so, "{line}");
+    }
+    Ok(())
+}
+
+#[test]
+fn broken_terms(rt: HostRuntime) -> Result<(), Fail> {
+    let names = names(rt.alloc())?;
+    for (line, wanted) in BROKEN_TERMS {
+        let is_so = is_advised(rt.alloc(), &names, Reason::BadTerm, line, wanted)?;
+        assert!(rt; is_so, "{line}");
     }
     Ok(())
 }
@@ -353,13 +437,8 @@ fn bad_terms(rt: HostRuntime) -> Result<(), Fail> {
 fn bad_atoms(rt: HostRuntime) -> Result<(), Fail> {
     let names = names(rt.alloc())?;
     for (line, column) in BAD_ATOMS {
-        let reason = read_line(LATER, &names, line.as_bytes()).err();
-        assert!(rt; reason == Some(Reason::BadTerm), "{line}");
-        let advice = advice(rt.alloc(), &names, Reason::BadTerm, line)?;
-        let wanted = format!(in rt.alloc();
-            "column {column}: an atom is a lower-case letter, then letters, digits, '_' and '@', or text in quotes, as 'two words', of 255 characters at most"
-        )?;
-        assert!(rt; advice.as_str() == wanted.as_str(), "{line}: {advice}");
+        let is_so = atom_is_advised(rt.alloc(), &names, line, column)?;
+        assert!(rt; is_so, "{line}");
     }
     Ok(())
 }
@@ -368,13 +447,8 @@ fn bad_atoms(rt: HostRuntime) -> Result<(), Fail> {
 fn unknown_names(rt: HostRuntime) -> Result<(), Fail> {
     let names = names(rt.alloc())?;
     for (line, name, column) in UNKNOWN_NAMES {
-        let reason = read_line(LATER, &names, line.as_bytes()).err();
-        assert!(rt; reason == Some(Reason::UnknownName), "{line}");
-        let advice = advice(rt.alloc(), &names, Reason::UnknownName, line)?;
-        let wanted = format!(in rt.alloc();
-            "column {column}: '{name}' behind a '$' is no name of a process or a monitor; 'spawn NODE name' names a process, and 'monitor p q name' a monitor"
-        )?;
-        assert!(rt; advice.as_str() == wanted.as_str(), "{line}: {advice}");
+        let is_so = name_is_advised(rt.alloc(), &names, line, name, column)?;
+        assert!(rt; is_so, "{line}");
     }
     Ok(())
 }
@@ -383,17 +457,9 @@ fn unknown_names(rt: HostRuntime) -> Result<(), Fail> {
 fn long_terms(rt: HostRuntime) -> Result<(), Fail> {
     let names = names(rt.alloc())?;
     for (before, repeated, count, behind, column, cause) in LONG_TERMS {
-        let mut line = String::from_str(rt.alloc(), "send p p ")?;
-        line.push_str(before)?;
-        for _ in 0..count {
-            line.push_str(repeated)?;
-        }
-        line.push_str(behind)?;
-        let reason = read_line(LATER, &names, line.as_bytes()).err();
-        assert!(rt; reason == Some(Reason::BadTerm), "{line}");
-        let advice = advice(rt.alloc(), &names, Reason::BadTerm, line.as_str())?;
-        let wanted = format!(in rt.alloc(); "column {column}: {cause}")?;
-        assert!(rt; advice.as_str() == wanted.as_str(), "{line}: {advice}");
+        let line = long_line(rt.alloc(), before, repeated, count, behind)?;
+        let is_so = cause_is_advised(rt.alloc(), &names, line.as_str(), column, cause)?;
+        assert!(rt; is_so, "{line}");
     }
     Ok(())
 }
@@ -403,13 +469,13 @@ fn long_terms(rt: HostRuntime) -> Result<(), Fail> {
 fn bad_terms_alone(rt: HostRuntime) -> Result<(), Fail> {
     let names = names(rt.alloc())?;
     for (text, wanted) in TERMS {
-        if matches!(wanted, Printed::UnknownName) {
-            continue;
-        }
-        let line = format!(in rt.alloc(); "send p p {text}")?;
-        let advice = advice(rt.alloc(), &names, Reason::BadTerm, line.as_str())?;
-        let has_column = advice.starts_with("column ");
-        assert!(rt; has_column == matches!(wanted, Printed::BadTerm), "{text}");
+        let is_told = has_column(rt.alloc(), &names, text)?;
+        let is_right = match wanted {
+            Printed::As(_) | Printed::Same => !is_told,
+            Printed::BadTerm => is_told,
+            Printed::UnknownName => true,
+        };
+        assert!(rt; is_right, "{text}");
     }
     Ok(())
 }
