@@ -108,7 +108,7 @@ fn has_form(wanted: &str, word: &str) -> bool {
         "NODE" | "PEER" | "NAME" => NodeName::fits(word),
         "COOKIE" => word.len() <= 255 && word.bytes().all(|byte| byte.is_ascii_graphic()),
         "[PROFILE]" => matches!(word, "1" | "2" | "3"),
-        "TERM" | "ATOM" => true,
+        _ if is_text(wanted) => true,
         _ => is_name(word),
     }
 }
@@ -151,7 +151,7 @@ fn put_unknown_name(
 ) -> Result<(), AllocError> {
     let words = text.split(' ').filter(|word| !word.is_empty());
     for (wanted, word) in usage.split(' ').zip(words).skip(1) {
-        if wanted == "TERM" || wanted == "ATOM" {
+        if is_text(wanted) {
             break;
         }
         match names.get(word) {
@@ -209,7 +209,7 @@ fn put_name_taken(out: &mut String, usage: &str, text: &str) -> Result<(), Alloc
 
 /// Returns true if a word of a usage stands for a text.
 fn is_text(word: &str) -> bool {
-    word == "ATOM" || word == "TERM"
+    matches!(word, "ATOM" | "TERM" | "WORDS")
 }
 
 fn put_bad_term(
