@@ -45,7 +45,8 @@ const ABOUT: &str = "Erlang nodes in one process, driven by a script";
 pub const STANDARD_INPUT: &str = "-";
 
 /// More files than one are for `--check` alone.
-const MANY_FILES: &str = "one FILE is run at a time: write '--check' before the files to run each for its outcome";
+const MANY_FILES: &str =
+    "one FILE is run at a time: write '--check' before the files to run each for its outcome";
 
 /// The forms of a trace: frames in hex, or events in JSON.
 const TRACES: &[&str] = &["hex", "json"];
@@ -127,7 +128,9 @@ fn command<'a>(alloc: Global) -> Result<Command<'a>, Error> {
         .value_parser(clap::value_parser!(u32));
     let check = Arg::new(alloc, "check")
         .long("check")
-        .help("Run each FILE, print whether it passed, and count; a script fails at an 'expect' that isn't met")
+        .help(
+            "Run each FILE, print whether it passed, and count; a script fails at an 'expect' that isn't met",
+        )
         .action(ArgAction::SetTrue)
         .conflicts_with("trace")?
         .conflicts_with("picture")?;

@@ -9,8 +9,8 @@ use crate::command::Verb;
 use crate::line::Line;
 use crate::naming::{
     atom_read, demonitor_named, formed, monitor_named, names_bound, node_formed, nodes_formed,
-    owner_named, process_named, processes_named, profile_in, sender_named, spawn_formed, switch_named,
-    term_read,
+    owner_named, process_named, processes_named, profile_in, sender_named, spawn_formed,
+    switch_named, term_read,
 };
 use crate::reason::Reason;
 use crate::words::{

@@ -60,7 +60,7 @@ compared session state bytes out it words (Ok x) h says e met = record {
 }
 compared session state bytes out it words (Err (stop.Bad reason)) h says e met = (
   compares state bytes it words says e ∙ ap (λ b. cond b (Ok (stays state)) (Err Reason.Unmet)) met.1
-  ∙ ap (λ (why : Reason). Err why) (sym met.0),
+      ∙ ap (λ (why : Reason). Err why) (sym met.0),
   refl,
 )
 compared session state bytes out it words (Err stop.OutOfMemory) h says e met =

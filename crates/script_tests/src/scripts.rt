@@ -432,23 +432,56 @@ fn one_failed_write(rt: HostRuntime) -> Result<(), Fail> {
 
 /// Scripts that expect replies, and their outcomes.
 const EXPECTING: [(&str, Outcome); 14] = [
-    ("node a@h c\nexpect up a@h 1\nnode b@h c\nexpect up b@h 1", Outcome::Ran),
-    ("node a@h c\nspawn a@h p\nexpect $p\nexpect   <a@h.1.0.1>  ", Outcome::Ran),
-    ("pair\nlink p q\nexpect done\n# a comment\n\nexpect done\nends p q\nexpect ends active none\n", Outcome::Ran),
+    (
+        "node a@h c\nexpect up a@h 1\nnode b@h c\nexpect up b@h 1",
+        Outcome::Ran,
+    ),
+    (
+        "node a@h c\nspawn a@h p\nexpect $p\nexpect   <a@h.1.0.1>  ",
+        Outcome::Ran,
+    ),
+    (
+        "pair\nlink p q\nexpect done\n# a comment\n\nexpect done\nends p q\nexpect ends active none\n",
+        Outcome::Ran,
+    ),
     (
         "node a@h c\nspawn a@h p\nspawn a@h q\nmonitor p q m\nexpect $m\nsettle\ndie q x\nsettle\nreceive p\nexpect message {'DOWN',$m,process,$q,x}",
         Outcome::Ran,
     ),
-    ("node a@h c\nspawn a@h p\nsend p p '$p'\nsettle\nreceive p\nexpect message '$p'", Outcome::Ran),
+    (
+        "node a@h c\nspawn a@h p\nsend p p '$p'\nsettle\nreceive p\nexpect message '$p'",
+        Outcome::Ran,
+    ),
     ("node a@h c\nshow\nexpect node a@h up 1", Outcome::Ran),
-    ("node a@h c\nexpect up a@h", Outcome::BadLine(2, Reason::Unmet)),
-    ("node a@h c\nexpect up a@h 1 1", Outcome::BadLine(2, Reason::Unmet)),
+    (
+        "node a@h c\nexpect up a@h",
+        Outcome::BadLine(2, Reason::Unmet),
+    ),
+    (
+        "node a@h c\nexpect up a@h 1 1",
+        Outcome::BadLine(2, Reason::Unmet),
+    ),
     ("expect done", Outcome::BadLine(1, Reason::Unmet)),
-    ("pair\nexpect done\nexpect other", Outcome::BadLine(2, Reason::Unmet)),
-    ("pair\nlink p q\nexpect done\nlink p q\nexpect other\nexpect more", Outcome::BadLine(5, Reason::Unmet)),
-    ("node a@h c\nspawn a@h p\nexpect '$p'", Outcome::BadLine(3, Reason::Unmet)),
-    ("node a@h c\nexpect up $nope", Outcome::BadLine(2, Reason::UnknownName)),
-    ("node a@h c\nexpect  ", Outcome::BadLine(2, Reason::WrongWords)),
+    (
+        "pair\nexpect done\nexpect other",
+        Outcome::BadLine(2, Reason::Unmet),
+    ),
+    (
+        "pair\nlink p q\nexpect done\nlink p q\nexpect other\nexpect more",
+        Outcome::BadLine(5, Reason::Unmet),
+    ),
+    (
+        "node a@h c\nspawn a@h p\nexpect '$p'",
+        Outcome::BadLine(3, Reason::Unmet),
+    ),
+    (
+        "node a@h c\nexpect up $nope",
+        Outcome::BadLine(2, Reason::UnknownName),
+    ),
+    (
+        "node a@h c\nexpect  ",
+        Outcome::BadLine(2, Reason::WrongWords),
+    ),
 ];
 
 /// Returns the outcome of a script, and the fault of the line at which it ends.
@@ -466,16 +499,29 @@ fn expectations(rt: HostRuntime) {
         assert_eq!(rt; outcome, wanted, "{script}");
     }
     let (_, advice) = ended(rt.alloc(), "pair\nends p q\nexpect ends $p $q");
-    let wanted = "the reply isn't the line that was expected\n  expected: ends <a@h.1.0.1> <b@h.1.0.1>\n  but came: ends none none";
+    let wanted =
+        "the reply isn't the line that was expected\n  expected: ends <a@h.1.0.1> <b@h.1.0.1>\n  but came: ends none none";
     assert_eq!(rt; advice.as_str(), wanted);
 }
 
 /// A line of `--check`: the outcome, the advice, and the text.
 const CHECKED: [(Outcome, &str, &str); 4] = [
     (Outcome::Ran, "", "passed story"),
-    (Outcome::BadLine(7, Reason::Unmet), "as told", "failed story: line 7: not met: as told"),
-    (Outcome::BadLine(7, Reason::BadName), "", "failed story: line 7: bad name"),
-    (Outcome::Unmerged, "", "failed story: the histories of its nodes don't merge"),
+    (
+        Outcome::BadLine(7, Reason::Unmet),
+        "as told",
+        "failed story: line 7: not met: as told",
+    ),
+    (
+        Outcome::BadLine(7, Reason::BadName),
+        "",
+        "failed story: line 7: bad name",
+    ),
+    (
+        Outcome::Unmerged,
+        "",
+        "failed story: the histories of its nodes don't merge",
+    ),
 ];
 
 #[test]
@@ -529,7 +575,12 @@ const GOOD_WORDS: [(&[&str], bool, Form, u32); 10] = [
     (&["--picture"], false, Form::Picture, 1),
     (&["--picture", "--seed", "3"], false, Form::Picture, 3),
     (&["--trace", "script", "--seed", "3"], true, Form::Text, 3),
-    (&["--check", "one", "other", "--threads"], false, Form::Threads, 1),
+    (
+        &["--check", "one", "other", "--threads"],
+        false,
+        Form::Threads,
+        1,
+    ),
 ];
 
 /// Others, and the status that they are refused with.
