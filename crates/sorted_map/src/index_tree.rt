@@ -1,11 +1,11 @@
 //! Slot numbers in the order that the caller tells.
 
-ghost use Rattle.std.specs.Prelude.{◌≡◌, ◌≤◌, ◌<◌, ◌^◌, ◌+◌, ℕ, [], IsOk, OnOk, OnErr};
+ghost use Rattle.std.specs.Prelude.{◌≡◌, ◌≤◌, ◌<◌, ◌^◌, ◌+◌, ℕ, [], IfOk, IsOk, OnOk, OnErr};
 ghost use Rattle.std.specs.List.{last_or};
 ghost use Rattle.std.specs.declared.cmp.Ordering.{Ordering as Order};
 ghost use Rattle.sorted_map.specs.Indexed.{Answers, IsParted, first_not_less, with_slot, without_tied, first_tied};
 
-use crate::nodes::{Blank, Node, Side, first_from, inserted, last_within, removed};
+use crate::nodes::{Blank, Node, Side, copied, first_from, inserted, last_within, removed};
 use crate::spare::fill;
 use std::alloc::{AllocError, Global};
 use std::cmp::Ordering;
@@ -41,6 +41,19 @@ impl IndexTree {
             root: None,
             spare: Vec::new(alloc),
         }
+    }
+
+    /// Returns a copy with the same slots, and no room. Takes as many steps as there are slots.
+    ///
+    /// # Errors
+    /// If memory runs out.
+    pub fn copy(&self, alloc: Global) -> Result<IndexTree, AllocError>
+        ensures { IfOk result (λ copy. copy.slots ≡ self.now.slots) }
+    {
+        Ok(IndexTree {
+            root: copied(alloc, &self.root)?,
+            spare: Vec::new(alloc),
+        })
     }
 
     /// Returns the number of slots that may still come without memory.

@@ -1,6 +1,6 @@
 //! Entries in the order of their keys.
 
-ghost use Rattle.std.specs.Prelude.{◌≡◌, ◌≤◌, ◌+◌, [], T, IsOk, IsSome, IfOk, IfErr, OnOk, OnErr};
+ghost use Rattle.std.specs.Prelude.{◌≡◌, ◌≤◌, ◌+◌, ◌++◌, ◌∷◌, [], T, IsOk, IsSome, IfOk, IfErr, OnOk, OnErr};
 ghost use Rattle.std.specs.Option.{option_copied};
 ghost use Rattle.std.specs.FinMap.{find, put, is_sorted};
 ghost use Rattle.std.specs.Fn.{CalledAt};
@@ -47,6 +47,24 @@ impl<K: Ord, V> SortedMap<K, V> {
         SortedMap {
             entries: Vec::new(alloc),
         }
+    }
+
+    /// Returns a copy with the same entries. Clones of a key and of a value are the same again. Takes as
+    /// many steps as there are entries.
+    ///
+    /// # Errors
+    /// If memory runs out.
+    pub fn copy(&self, alloc: Global) -> Result<SortedMap<K, V>, AllocError>
+    where
+        K: Clone,
+        V: Clone,
+        requires keys { (key clone : K) → K.is_clone key clone → clone ≡ key }
+        requires values { (value clone : V) → V.is_clone value clone → clone ≡ value }
+        ensures { IfOk result (λ copy. copy.entries ≡ self.now.entries) }
+    {
+        Ok(SortedMap {
+            entries: Vec::from_clones(alloc, &self.entries)?,
+        })
     }
 
     /// Returns the entries, in the order of their keys. Takes no memory.
@@ -120,6 +138,25 @@ impl<K: Ord, V> SortedMap<K, V> {
                 Ok(None)
             }
         }
+    }
+
+    /// Puts the value at a key that is greater than the others. Takes no step for an entry that is there.
+    ///
+    /// # Errors
+    /// If there is neither room nor memory. Then nothing has changed.
+    pub fn push(&mut self, key: K, value: V) -> Result<(), AllocError>
+    where
+        K: Drop,
+        V: Drop,
+        requires { T (is_sorted K.cmp (self.old.entries ++ (key, value) ∷ [])) }
+        ensures ok { OnOk result (self.new.entries ≡ self.old.entries ++ (key, value) ∷ []) }
+        ensures room { self.old.room ≤ self.new.room + 1 }
+        ensures err { OnErr result (self.new ≡ self.old) }
+        ensures succeeds { 1 ≤ self.old.room → IsOk result }
+    {
+        self.entries.reserve(1)?;
+        self.entries.push_reserved((key, value));
+        Ok(())
     }
 
     /// Changes the value of a key that is there, and gives the one before. Takes no memory. Where

@@ -1,6 +1,6 @@
 //! Nodes of a balanced tree.
 
-ghost use Rattle.std.specs.Prelude.{◌≡◌, ◌≤◌, ◌+◌, ◌++◌, ◌∷◌, []};
+ghost use Rattle.std.specs.Prelude.{◌≡◌, ◌≤◌, ◌+◌, ◌++◌, ◌∷◌, [], IfOk};
 ghost use Rattle.std.specs.Fn.{FnReturnsAt, FnReturnsAtPair};
 ghost use Rattle.std.specs.List.{last_or};
 ghost use Rattle.std.specs.Option.{option_copied};
@@ -9,6 +9,7 @@ ghost use Rattle.sorted_map.specs.Indexed.{Tells, IsParted, first_not_less, with
 ghost use Rattle.sorted_map.specs.Sides.{items_of};
 ghost use Rattle.sorted_map.specs.Parts.{items_within};
 
+use std::alloc::{AllocError, Global};
 use std::cmp::Ordering;
 use std::marker::Model;
 use std::mem;
@@ -116,6 +117,32 @@ pub(crate) fn last_within<T>(side: &Side<T>) -> Option<&T>
         below = right;
     }
     found
+}
+
+/// Returns a copy of a side, of the same shape. A clone of an item is the item again.
+///
+/// # Errors
+/// If memory runs out.
+pub(crate) fn copied<T: Clone>(alloc: Global, side: &Side<T>) -> Result<Side<T>, AllocError>
+    requires { (item clone : T) → T.is_clone item clone → clone ≡ item }
+    ensures { IfOk result (λ copy. items_of copy ≡ items_of side.now) }
+{
+    let Some(node) = side else {
+        return Ok(None);
+    };
+    let Node {
+        item,
+        height,
+        left,
+        right,
+    } = &**node;
+    let copy = Node {
+        item: item.clone()?,
+        height: *height,
+        left: copied(alloc, left)?,
+        right: copied(alloc, right)?,
+    };
+    Ok(Some(Box::new(alloc, copy)?))
 }
 
 /// Inserts an item before the first one that isn't less than it, in the memory that is given. The

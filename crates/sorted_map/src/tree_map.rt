@@ -12,7 +12,7 @@ ghost use Rattle.sorted_map.specs.Indexed.{IsParted, Tells};
 ghost use Rattle.sorted_map.specs.Mapped.{AnswersAtKey};
 
 use crate::entries::{Entry, exchanged, standing, value_in};
-use crate::nodes::{Node, Side, first_from, inserted, removed};
+use crate::nodes::{Node, Side, copied, first_from, inserted, removed};
 use crate::spare::fill;
 use std::alloc::{AllocError, Global};
 use std::cmp::Ordering;
@@ -58,6 +58,25 @@ impl<K: Ord, V> TreeMap<K, V> {
             root: None,
             spare: Vec::new(alloc),
         }
+    }
+
+    /// Returns a copy with the same entries, and no room. Clones of a key and of a value are the same
+    /// again. Takes as many steps as there are entries.
+    ///
+    /// # Errors
+    /// If memory runs out.
+    pub fn copy(&self, alloc: Global) -> Result<TreeMap<K, V>, AllocError>
+    where
+        K: Clone,
+        V: Clone,
+        requires keys { (key clone : K) → K.is_clone key clone → clone ≡ key }
+        requires values { (value clone : V) → V.is_clone value clone → clone ≡ value }
+        ensures { IfOk result (λ copy. copy.entries ≡ self.now.entries) }
+    {
+        Ok(TreeMap {
+            root: copied(alloc, &self.root)?,
+            spare: Vec::new(alloc),
+        })
     }
 
     /// Returns the first entry. Takes no memory.
