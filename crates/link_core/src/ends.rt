@@ -53,6 +53,18 @@ impl Ends {
         }
     }
 
+    /// Returns a copy with the same ends, and no room. Takes as many steps as there are partners.
+    ///
+    /// # Errors
+    /// If memory runs out.
+    pub fn copy(&self, alloc: Global) -> Result<Ends, AllocError>
+        ensures { IfOk result (λ copy. copy.ends ≡ self.now.ends) }
+    {
+        Ok(Ends {
+            records: self.records.copy(alloc)?,
+        })
+    }
+
     /// Returns the end towards a partner.
     pub fn end(&self, partner: &Pid) -> End
         ensures end { result ≡ end_of self.now.ends partner.now }
