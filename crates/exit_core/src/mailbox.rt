@@ -1,5 +1,5 @@
 //! The messages that wait for a process.
-ghost use Rattle.std.specs.Prelude.{◌≡◌, ◌↔◌, ◌≤◌, ◌+◌, ◌++◌, ◌∷◌, [], length, IsTrue, OnOk, OnErr, IsOk, MatchOption};
+ghost use Rattle.std.specs.Prelude.{◌≡◌, ◌↔◌, ◌≤◌, ◌+◌, ◌++◌, ◌∷◌, [], length, IsTrue, IfOk, OnOk, OnErr, IsOk, MatchOption};
 ghost use Rattle.std.specs.List.{slice_get};
 ghost use Rattle.std.specs.Option.{option_copied};
 
@@ -27,6 +27,20 @@ impl Model for Mailbox {
     ghost view = { λ m. record { messages = m.messages.items; room = deque_capacity m.messages - deque_len m.messages } };
 }
 
+// Appends copies of messages.
+fn push_copies(
+    alloc: Global,
+    copies: &mut Vec<Payload>,
+    messages: &[Payload],
+) -> Result<(), AllocError>
+    ensures { OnOk result (copies.new.items ≡ copies.old.items ++ messages.now) }
+{
+    for message in messages {
+        copies.push(message.copy(alloc)?)?;
+    }
+    Ok(())
+}
+
 impl Mailbox {
     /// No messages. Takes no memory.
     pub fn new(alloc: Global) -> Mailbox
@@ -35,6 +49,22 @@ impl Mailbox {
         Mailbox {
             messages: VecDeque::new(alloc),
         }
+    }
+
+    /// Returns a copy with the same messages.
+    ///
+    /// # Errors
+    /// If memory runs out.
+    pub fn copy(&self, alloc: Global) -> Result<Mailbox, AllocError>
+        ensures { IfOk result (λ copy. copy.messages ≡ self.now.messages) }
+    {
+        let (older, newer) = self.messages.as_slices();
+        let mut copies = Vec::with_capacity(alloc, self.messages.len())?;
+        push_copies(alloc, &mut copies, older)?;
+        push_copies(alloc, &mut copies, newer)?;
+        Ok(Mailbox {
+            messages: VecDeque::from(copies),
+        })
     }
 
     /// Makes room for so many more messages: that many can be put without a refusal afterwards.

@@ -1,8 +1,8 @@
 //! A process.
-ghost use Rattle.std.specs.Prelude.{◌≡◌, false, []};
+ghost use Rattle.std.specs.Prelude.{◌≡◌, IfOk, false, []};
 
 use crate::mailbox::Mailbox;
-use std::alloc::Global;
+use std::alloc::{AllocError, Global};
 
 /// A living process, as exit signals and messages find it.
 #[derive(Debug, Drop)]
@@ -24,5 +24,19 @@ impl Proc {
             trap: false,
             mailbox: Mailbox::new(alloc),
         }
+    }
+
+    /// Returns a copy, which traps exits as the process does, and has the same messages.
+    ///
+    /// # Errors
+    /// If memory runs out.
+    pub fn copy(&self, alloc: Global) -> Result<Proc, AllocError>
+        ensures trap { IfOk result (λ copy. copy.trap ≡ self.now.trap) }
+        ensures mailbox { IfOk result (λ copy. copy.mailbox.messages ≡ self.now.mailbox.messages) }
+    {
+        Ok(Proc {
+            trap: self.trap,
+            mailbox: self.mailbox.copy(alloc)?,
+        })
     }
 }
