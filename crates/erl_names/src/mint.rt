@@ -15,7 +15,8 @@ use std::marker::Model;
 const MOST_REFERENCES: u32 = 262_143;
 
 /// The name and creation of one incarnation of a node, and the numbers of pids, references and unlink
-/// ids that it has drawn. A mint has no copy, so no number of a kind comes twice.
+/// ids that it has drawn. No number of a kind comes twice from one mint. A clone draws the same numbers
+/// as its original, so it stands for the same incarnation in another world.
 ///
 /// (ERTS User's Guide, External Term Format, NEW_PID_EXT and NEWER_REFERENCE_EXT; Distribution
 /// Protocol, New Link Protocol.)
@@ -34,6 +35,20 @@ impl Model for Mint {
     ghost Value = { Minted };
 
     ghost view = { λ m. record { name = m.name; creation = m.creation; pids = m.pids; references = m.references; unlink_ids = m.unlink_ids } };
+}
+
+impl Clone for Mint {
+    ghost is_clone = { λ mint copy. copy ≡ mint };
+
+    fn clone(&self) -> Result<Mint, AllocError> {
+        Ok(Mint {
+            name: self.name.clone()?,
+            creation: self.creation,
+            pids: self.pids,
+            references: self.references,
+            unlink_ids: self.unlink_ids,
+        })
+    }
 }
 
 impl Mint {
