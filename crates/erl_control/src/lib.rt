@@ -11,6 +11,7 @@
 #![tactic(auto)]
 
 mod control;
+mod copying;
 mod error;
 mod fields;
 mod fit;
