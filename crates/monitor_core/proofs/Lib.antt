@@ -9,3 +9,4 @@ mod Among
 mod Present
 mod Left
 pub mod Walks
+pub mod Copied

@@ -1,6 +1,6 @@
 //! Monitors by reference.
 
-ghost use Rattle.std.specs.Prelude.{◌≡◌, ◌↔◌, ◌≤◌, ◌+◌, ◌-◌, ℕ, IsTrue, IsSome, OnOk, OnErr, IsOk, None, Some};
+ghost use Rattle.std.specs.Prelude.{◌≡◌, ◌↔◌, ◌≤◌, ◌+◌, ◌-◌, ℕ, IfOk, IsTrue, IsSome, OnOk, OnErr, IsOk, None, Some};
 ghost use Rattle.std.specs.Bool.{OnFalse};
 ghost use Rattle.std.specs.List.{last_or};
 ghost use Rattle.std.specs.Option.{option_copied, option_map};
@@ -88,6 +88,24 @@ impl<M: Kept> Monitors<M> {
             trees: Trees::new(alloc),
             room: 0,
         }
+    }
+
+    /// Returns a copy with the same monitors, and no room. A clone of a monitor is the monitor again. Takes
+    /// as many steps as there are slots.
+    ///
+    /// # Errors
+    /// If memory runs out.
+    pub(crate) fn copy(&self, alloc: Global) -> Result<Monitors<M>, AllocError>
+    where
+        M: Clone,
+        requires { (monitor clone : M) → M.is_clone monitor clone → clone ≡ monitor }
+        ensures { IfOk result (λ copy. copy.monitors ≡ self.now.monitors) }
+    {
+        Ok(Monitors {
+            slots: self.slots.copy(alloc)?,
+            trees: self.trees.copy(alloc)?,
+            room: 0,
+        })
     }
 
     /// Returns the monitor of `reference`. Never allocates.

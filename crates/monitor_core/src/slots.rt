@@ -1,5 +1,5 @@
 //! Entries in slots that have numbers.
-ghost use Rattle.std.specs.Prelude.{◌≡◌, ◌≤◌, ◌+◌, IsSome, OnOk, Some, None, []};
+ghost use Rattle.std.specs.Prelude.{◌≡◌, ◌≤◌, ◌+◌, IfOk, IsSome, OnOk, Some, None, []};
 ghost use Rattle.std.specs.Option.{option_copied};
 ghost use Rattle.monitor_core.specs.Slots.{held_at, Becomes};
 
@@ -48,6 +48,24 @@ impl<M: Drop> Slots<M> {
             held: Vec::new(alloc),
             free: Vec::new(alloc),
         }
+    }
+
+    /// Returns a copy with the same entries in the same slots. A clone of a monitor is the monitor again.
+    ///
+    /// # Errors
+    /// If memory runs out.
+    pub(crate) fn copy(&self, alloc: Global) -> Result<Slots<M>, AllocError>
+    where
+        M: Clone,
+        requires { (monitor clone : M) → M.is_clone monitor clone → clone ≡ monitor }
+        ensures { IfOk result (λ copy. copy.slots ≡ self.now.slots) }
+    {
+        let mut free = Vec::with_capacity(alloc, self.held.len())?;
+        free.extend_from_slice(&self.free)?;
+        Ok(Slots {
+            held: Vec::from_clones(alloc, &self.held)?,
+            free,
+        })
     }
 
     /// Returns the entry of `slot`, if it holds one. Never allocates.

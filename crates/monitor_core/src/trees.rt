@@ -1,5 +1,5 @@
 //! The slots of entries, in three orders.
-ghost use Rattle.std.specs.Prelude.{◌≡◌, ◌≤◌, ◌+◌, ◌-◌, ℕ, IsSome, OnOk, []};
+ghost use Rattle.std.specs.Prelude.{◌≡◌, ◌≤◌, ◌+◌, ◌-◌, ℕ, IfOk, IsSome, OnOk, []};
 ghost use Rattle.std.specs.Option.{option_copied};
 ghost use Rattle.monitor_core.specs.Slots.{IsAlone, held_at, holds, holds_but};
 ghost use Rattle.monitor_core.specs.Sought.{IsNext, meets};
@@ -60,6 +60,22 @@ impl Trees {
             by_process: IndexTree::new(alloc),
             by_node: IndexTree::new(alloc),
         }
+    }
+
+    /// Returns a copy with the same slots in each order.
+    ///
+    /// # Errors
+    /// If memory runs out.
+    pub(crate) fn copy(&self, alloc: Global) -> Result<Trees, AllocError>
+        ensures references { IfOk result (λ copy. copy.by_reference.slots ≡ self.now.by_reference.slots) }
+        ensures processes { IfOk result (λ copy. copy.by_process.slots ≡ self.now.by_process.slots) }
+        ensures nodes { IfOk result (λ copy. copy.by_node.slots ≡ self.now.by_node.slots) }
+    {
+        Ok(Trees {
+            by_reference: self.by_reference.copy(alloc)?,
+            by_process: self.by_process.copy(alloc)?,
+            by_node: self.by_node.copy(alloc)?,
+        })
     }
 
     /// Reserves memory for `additional` further slots.

@@ -1,6 +1,6 @@
 //! The monitors that others own, of the processes of a node.
 
-ghost use Rattle.std.specs.Prelude.{◌≡◌, ◌↔◌, ◌≤◌, ◌+◌, IsTrue, OnOk, OnErr, IsOk, ◌&&◌, None, Some};
+ghost use Rattle.std.specs.Prelude.{◌≡◌, ◌↔◌, ◌≤◌, ◌+◌, IfOk, IsTrue, OnOk, OnErr, IsOk, ◌&&◌, None, Some};
 ghost use Rattle.std.specs.Bool.{OnFalse};
 ghost use Rattle.std.specs.Option.{option_copied, option_map};
 ghost use Rattle.std.specs.Ordering.{nat_cmp, eq_by_cmp};
@@ -50,6 +50,18 @@ impl Watchers {
         Watchers {
             monitors: Monitors::new(alloc),
         }
+    }
+
+    /// Returns a copy with the same monitors, and no room. Takes about as many steps as there are monitors.
+    ///
+    /// # Errors
+    /// If memory runs out.
+    pub fn copy(&self, alloc: Global) -> Result<Watchers, AllocError>
+        ensures { IfOk result (λ copy. copy.monitors ≡ self.now.monitors) }
+    {
+        Ok(Watchers {
+            monitors: self.monitors.copy(alloc)?,
+        })
     }
 
     /// Returns the registration of `reference`. Never allocates. Takes about as many steps as the logarithm of

@@ -1,6 +1,6 @@
 //! The monitors that the processes of a node own.
 
-ghost use Rattle.std.specs.Prelude.{◌≡◌, ◌↔◌, ◌≤◌, ◌+◌, IsTrue, OnOk, OnErr, IsOk, ◌&&◌, None, Some};
+ghost use Rattle.std.specs.Prelude.{◌≡◌, ◌↔◌, ◌≤◌, ◌+◌, IfOk, IsTrue, OnOk, OnErr, IsOk, ◌&&◌, None, Some};
 ghost use Rattle.std.specs.Bool.{OnFalse};
 ghost use Rattle.std.specs.Option.{option_copied};
 ghost use Rattle.std.specs.Ordering.{nat_cmp, eq_by_cmp};
@@ -49,6 +49,18 @@ impl Watches {
         Watches {
             monitors: Monitors::new(alloc),
         }
+    }
+
+    /// Returns a copy with the same monitors, and no room. Takes about as many steps as there are monitors.
+    ///
+    /// # Errors
+    /// If memory runs out.
+    pub fn copy(&self, alloc: Global) -> Result<Watches, AllocError>
+        ensures { IfOk result (λ copy. copy.monitors ≡ self.now.monitors) }
+    {
+        Ok(Watches {
+            monitors: self.monitors.copy(alloc)?,
+        })
     }
 
     /// Returns the watch of `reference`. Never allocates. Takes about as many steps as the logarithm of the
