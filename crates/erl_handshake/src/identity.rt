@@ -22,6 +22,19 @@ pub struct Identity {
     pub cookie: Cookie,
 }
 
+impl Clone for Identity {
+    ghost is_clone = { λ identity copy. copy ≡ identity };
+
+    fn clone(&self) -> Result<Identity, AllocError> {
+        Ok(Identity {
+            name: self.name.clone()?,
+            creation: self.creation,
+            flags: self.flags,
+            cookie: self.cookie.clone()?,
+        })
+    }
+}
+
 impl Identity {
     /// The first message of a dialer, send_name. (ERTS User's Guide, Distribution Protocol,
     /// Distribution Handshake.)
