@@ -33,6 +33,18 @@ pub struct Side {
     pub standing: Standing,
 }
 
+impl Clone for Side {
+    ghost is_clone = { λ side copy. copy ≡ side };
+
+    fn clone(&self) -> Result<Side, AllocError> {
+        Ok(Side {
+            trunk: self.trunk.clone()?,
+            peer: self.peer.clone()?,
+            standing: self.standing,
+        })
+    }
+}
+
 impl Side {
     /// The side of a node that dials this peer, under a challenge of its own. What it sends is
     /// [`Identity::send_name`]. Takes no memory. (ERTS User's Guide, Distribution Protocol,
