@@ -14,3 +14,4 @@ pub mod Seen
 pub mod Ended
 pub mod Stood
 pub mod Registered
+pub mod Copied

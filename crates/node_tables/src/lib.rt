@@ -14,6 +14,7 @@ mod at_place;
 mod by_pid;
 mod change;
 mod changing;
+mod copying;
 mod end_change;
 mod incarnation;
 mod life;
