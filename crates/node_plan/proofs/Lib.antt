@@ -6,3 +6,4 @@ pub mod Sided
 pub mod Restarted
 pub mod Quieted
 pub mod ProcessChanges
+pub mod CopiedNode

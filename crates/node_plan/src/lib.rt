@@ -10,6 +10,7 @@ mod change;
 mod changing_processes;
 mod commit;
 mod copying;
+mod copying_node;
 mod ending;
 mod monitors;
 mod node;
