@@ -8,6 +8,7 @@ use erl_names::NodeName;
 use erl_term::Atom;
 use node_frames::same_name;
 use node_plan::Node;
+use std::alloc::AllocError;
 
 /// The progress of the sweep of a lost connection: the processes that have no links to its peer left, so
 /// that the next is sought behind them. (Monitors towards a peer are found without that. Reference Manual,
@@ -18,6 +19,17 @@ pub struct Sweeping {
     pub(crate) peer: Option<NodeName>,
     /// The processes up to this id have no links to it.
     pub(crate) id: u32,
+}
+
+impl Clone for Sweeping {
+    ghost is_clone = { λ sweeping copy. copy ≡ sweeping };
+
+    fn clone(&self) -> Result<Sweeping, AllocError> {
+        Ok(Sweeping {
+            peer: self.peer.clone()?,
+            id: self.id,
+        })
+    }
 }
 
 impl Sweeping {
