@@ -4,6 +4,7 @@
 mod arriving;
 mod calling;
 mod committing;
+mod copying;
 mod dialing;
 mod events;
 mod incarnations;
