@@ -12,3 +12,4 @@ pub mod Opened
 pub mod Reached
 pub mod Silent
 pub mod Stepped
+pub mod Copied

@@ -7,6 +7,7 @@
 
 mod applying;
 mod arriving;
+mod copying;
 mod event;
 mod finishing;
 mod forgetting;

@@ -1,5 +1,5 @@
 //! The frames in flight to one node.
-ghost use Rattle.std.specs.Prelude.{◌≡◌, ◌++◌, ◌∷◌, [], List, OnErr, OnOk, T, if◌then◌else◌};
+ghost use Rattle.std.specs.Prelude.{◌≡◌, ◌++◌, ◌∷◌, [], IfOk, List, OnErr, OnOk, T, if◌then◌else◌};
 ghost use Rattle.std.specs.FinMap.{find, is_sorted};
 ghost use Rattle.std.specs.Option.{option_copied};
 ghost use Rattle.std.specs.Ordering.{eq_by_cmp};
@@ -60,6 +60,19 @@ fn put_back(
     }
 }
 
+// Appends a copy of an entry, whose connection comes behind the others.
+fn push_copy(
+    alloc: Global,
+    queues: &mut SortedMap<TrunkId, Queue>,
+    trunk: &TrunkId,
+    queue: &Queue,
+) -> Result<(), AllocError>
+    requires { T (is_sorted trunk_cmp (queues.old.entries ++ (trunk.now, queue.now) ∷ [])) }
+    ensures { OnOk result (queues.new.entries ≡ queues.old.entries ++ (trunk.now, queue.now) ∷ []) }
+{
+    queues.push(trunk.clone()?, queue.copy(alloc)?)
+}
+
 impl Line {
     /// Nothing. Takes no memory.
     pub(crate) fn new(alloc: Global) -> Line
@@ -69,6 +82,21 @@ impl Line {
             queues: SortedMap::new(alloc),
             spare: Queue::new(alloc),
         }
+    }
+
+    /// Returns a copy with the same entries.
+    pub(crate) fn copy(&self, alloc: Global) -> Result<Line, AllocError>
+        ensures { IfOk result (λ copy. copy ≡ self.now) }
+    {
+        let mut queues = SortedMap::new(alloc);
+        queues.reserve(self.entries().len())?;
+        for (trunk, queue) in self.entries() {
+            push_copy(alloc, &mut queues, trunk, queue)?;
+        }
+        Ok(Line {
+            queues,
+            spare: Queue::new(alloc),
+        })
     }
 
     /// The entries, in the order of the connections.

@@ -1,10 +1,10 @@
 //! The frames in flight between nodes.
-ghost use Rattle.std.specs.Prelude.{◌≡◌, ◌++◌, [], List, OnErr, OnOk, T, if◌then◌else◌};
+ghost use Rattle.std.specs.Prelude.{◌≡◌, ◌++◌, ◌∷◌, [], IfOk, List, OnErr, OnOk, T, if◌then◌else◌};
 ghost use Rattle.std.specs.FinMap.{is_sorted};
 ghost use Rattle.std.specs.Option.{option_copied};
 ghost use Rattle.std.specs.Ordering.{eq_by_cmp};
 ghost use Rattle.dist_model.specs.Names.{Name, place_cmp};
-ghost use Rattle.erl_names.specs.Order.{trunk_cmp};
+ghost use Rattle.erl_names.specs.Order.{name_cmp, trunk_cmp};
 ghost use Rattle.erl_names.specs.declared.trunk.TrunkId.{TrunkId as TheTrunk};
 ghost use Rattle.node_frames.specs.Frames.{Framed};
 ghost use Rattle.world_core.specs.Lists.{HoldsAll, at, behind_first, first_of, line_to, nothing_between};
@@ -39,6 +39,19 @@ impl Model for Lists {
     ghost view = { λ l. l.lines.entries };
 }
 
+// Appends a copy of the entry of a node, whose name comes behind the others.
+fn push_copy(
+    alloc: Global,
+    lines: &mut SortedMap<NodeName, Line>,
+    to: &NodeName,
+    line: &Line,
+) -> Result<(), AllocError>
+    requires { T (is_sorted name_cmp (lines.old.entries ++ (to.now, line.now) ∷ [])) }
+    ensures { OnOk result (lines.new.entries ≡ lines.old.entries ++ (to.now, line.now) ∷ []) }
+{
+    lines.push(to.clone()?, line.copy(alloc)?)
+}
+
 impl Lists {
     /// Nothing travels. Takes no memory.
     pub fn new(alloc: Global) -> Lists
@@ -47,6 +60,21 @@ impl Lists {
         Lists {
             lines: SortedMap::new(alloc),
         }
+    }
+
+    /// Returns a copy with the same frames in flight.
+    ///
+    /// # Errors
+    /// [`AllocError`] if out of memory.
+    pub fn copy(&self, alloc: Global) -> Result<Lists, AllocError>
+        ensures { IfOk result (λ copy. copy ≡ self.now) }
+    {
+        let mut lines = SortedMap::new(alloc);
+        lines.reserve(self.lines.entries().len())?;
+        for (to, line) in self.lines.entries() {
+            push_copy(alloc, &mut lines, to, line)?;
+        }
+        Ok(Lists { lines })
     }
 
     /// Returns the frames that travel to a node, by connection, in the order of connections. A connection

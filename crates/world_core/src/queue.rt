@@ -1,5 +1,5 @@
 //! What travels on one connection to one node.
-ghost use Rattle.std.specs.Prelude.{◌≡◌, ◌++◌, ◌∷◌, [], List, OnErr, OnOk, not};
+ghost use Rattle.std.specs.Prelude.{◌≡◌, ◌++◌, ◌∷◌, [], IfOk, List, OnErr, OnOk, not};
 ghost use Rattle.std.specs.List.{list_all};
 ghost use Rattle.std.specs.Option.{option_copied};
 ghost use Rattle.node_frames.specs.Frames.{Framed};
@@ -48,6 +48,16 @@ fn is_between(p: &Pid, q: &Pid, frame: &Frame) -> bool
     joins(p, q, frame.between()) || joins(q, p, frame.between())
 }
 
+// Appends copies of frames.
+fn push_copies(alloc: Global, copies: &mut Vec<Frame>, frames: &[Frame]) -> Result<(), AllocError>
+    ensures { OnOk result (copies.new.items ≡ copies.old.items ++ frames.now) }
+{
+    for frame in frames {
+        copies.push(frame.copy(alloc)?)?;
+    }
+    Ok(())
+}
+
 impl Queue {
     /// Nothing. Takes no memory.
     pub(crate) fn new(alloc: Global) -> Queue
@@ -56,6 +66,19 @@ impl Queue {
         Queue {
             frames: VecDeque::new(alloc),
         }
+    }
+
+    /// Returns a copy with the same frames.
+    pub(crate) fn copy(&self, alloc: Global) -> Result<Queue, AllocError>
+        ensures { IfOk result (λ copy. copy ≡ self.now) }
+    {
+        let (older, newer) = self.frames.as_slices();
+        let mut copies = Vec::with_capacity(alloc, self.frames.len())?;
+        push_copies(alloc, &mut copies, older)?;
+        push_copies(alloc, &mut copies, newer)?;
+        Ok(Queue {
+            frames: VecDeque::from(copies),
+        })
     }
 
     /// Returns the frame that comes next. Takes no memory.
