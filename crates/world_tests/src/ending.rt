@@ -1,7 +1,7 @@
 //! A process with many links that ends, while memory is refused.
 //!
-//! Two worlds of the same events stand beside one another. Each event happens in the first one, and then in
-//! its copy. Where the first one refuses it for want of memory, it has to be as the copy still is.
+//! A world and its copy (`World::copy`) stand beside one another. Each event happens in the world, and then
+//! in the copy. Where the world refuses it for want of memory, it has to be as the copy still is.
 use crate::claims::is_living;
 use crate::events::{pid, world};
 use crate::stage::{act, persist};
@@ -197,10 +197,7 @@ fn both_worlds(alloc: Global) -> Result<Option<Twins>, Refusal> {
     let Some(world) = linked(alloc)? else {
         return Ok(None);
     };
-    let Some(copy) = linked(alloc)? else {
-        drop(world);
-        return Ok(None);
-    };
+    let copy = world.copy(alloc)?;
     let pids = pids(alloc)?;
     let mut mark = Vec::with_capacity(alloc, MARK)?;
     mark.push(1)?;

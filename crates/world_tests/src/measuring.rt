@@ -15,6 +15,12 @@ const SIZES: [u32; 3] = [1_000, 10_000, 100_000];
 /// So often messages are sent, and pairs of calls made.
 const ROUNDS: u32 = 200_000;
 
+/// How many linked processes the first node of a copied world has.
+const COPIED_SIZES: [u32; 3] = [2, 10, 100];
+
+/// So often a world is copied.
+const COPIES: u32 = 10_000;
+
 /// What is measured: of one node with processes that take turns, or of two.
 #[derive(Clone, Copy)]
 enum Subject {
@@ -211,6 +217,31 @@ fn measure_subject(rt: &HostRuntime, subject: Subject, size: u32) -> Result<()> 
     measured
 }
 
+fn copy_often(alloc: Global, world: &World) -> Result<(), Refusal> {
+    for _ in 0..COPIES {
+        drop(world.copy(alloc)?);
+    }
+    Ok(())
+}
+
+fn measure_copies_in(rt: &HostRuntime, world: &mut World, size: u32) -> Result<()> {
+    spawn(rt.alloc(), world, size)?;
+    connect(rt.alloc(), world)?;
+    link_to_all(rt.alloc(), world, size)?;
+    let start = Instant::now(rt)?;
+    copy_often(rt.alloc(), world)?;
+    let rate = a_second(COPIES, start.elapsed(rt)?);
+    println!(rt; "  copy of {size} linked processes: {rate} a second")?;
+    Ok(())
+}
+
+fn measure_copies(rt: &HostRuntime, size: u32) -> Result<()> {
+    let mut world = world(rt.alloc(), &["c", "c"])?;
+    let measured = measure_copies_in(rt, &mut world, size);
+    drop(world);
+    measured
+}
+
 /// Prints how often a second one node, and two, do what is measured.
 pub fn measure(rt: &HostRuntime) -> Result<()> {
     for size in SIZES {
@@ -222,6 +253,9 @@ pub fn measure(rt: &HostRuntime) -> Result<()> {
     println!(rt; "two nodes")?;
     for subject in OF_TWO {
         measure_subject(rt, subject, 1)?;
+    }
+    for size in COPIED_SIZES {
+        measure_copies(rt, size)?;
     }
     Ok(())
 }
