@@ -21,7 +21,7 @@ fn copies_of(alloc: Global, nodes: &[Node]) -> Result<Vec<Node>, AllocError>
 
 impl World {
     /// Returns a copy, which stands for the same worlds of the model. It has memory of its own: an event
-    /// of one changes nothing of the other. Takes as many steps as the two have parts.
+    /// of one changes nothing of the other. Takes as many steps as the world has parts.
     ///
     /// # Errors
     /// If memory runs out.

@@ -15,10 +15,10 @@ const SIZES: [u32; 3] = [1_000, 10_000, 100_000];
 /// So often messages are sent, and pairs of calls made.
 const ROUNDS: u32 = 200_000;
 
-/// How many linked processes the first node of a copied world has.
+/// The numbers of linked processes at the first node of a copied world.
 const COPIED_SIZES: [u32; 3] = [2, 10, 100];
 
-/// So often a world is copied.
+/// The number of copies that are measured.
 const COPIES: u32 = 10_000;
 
 /// What is measured: of one node with processes that take turns, or of two.
