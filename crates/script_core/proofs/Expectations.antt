@@ -1,7 +1,7 @@
 -- A script runs through only if all that its lines expect was printed.
 use Rattle.std.proofs.Common.{◌≡◌, ℕ, ◌+◌, Bool, true, false, cond, ltb, List, [], ◌∷◌, ◌++◌, length}
 use Rattle.std.proofs.Common.{Option, None, Some, Result, Ok, Err, refl, sym, ap, subst, ◌∙◌, arith}
-use Rattle.core.specs.Cmp.Lexicographic.{bytes_decides}
+use Rattle.std.specs.Cmp.Lexicographic.{bytes_decides}
 use Rattle.script_core.specs.Expected.{AreMet, Expects, FirstUnmet, IsMet, LeadsTo, last_printed}
 use Rattle.script_core.specs.Script.{AtBadLine, Run, TooManyLines, Verdict, Whole, runs_lines, runs_step, stops}
 use Rattle.script_lines.specs.Breaks.{last_line, last_of, later}
@@ -153,17 +153,19 @@ record Ended (state : State) (lines : List (List ℕ)) (first number : ℕ) (rea
 ended : (first : ℕ) (state : State) (lines : List (List ℕ)) (number : ℕ) (reason : Reason)
     → (runs_lines first state lines).verdict ≡ AtBadLine number reason → Ended state lines first number reason
 ended first state [] number reason e = absurd cc
-ended first state (line ∷ lines) number reason e = go (ltb 1048576 first) (line_does state line) refl e
+ended first state (line ∷ lines) number reason e =
+    go (ltb 1048576 first) (line_does state line) refl e (λ s w. ended (first + 1) s lines number reason w)
   where
     rest : State → Run
     rest s = runs_lines (first + 1) s lines
 
     go : (b : Bool) (r : Result Step Reason) → line_does state line ≡ r
         → (cond b (stops TooManyLines state) (runs_step first state r rest)).verdict ≡ AtBadLine number reason
+        → ((s : State) → (rest s).verdict ≡ AtBadLine number reason → Ended s lines (first + 1) number reason)
         → Ended state (line ∷ lines) first number reason
-    go true r is e = absurd cc
-    go false (Ok step) is e =
-        let h = ended (first + 1) step.state lines number reason e in
+    go true r is e later = absurd cc
+    go false (Ok step) is e later =
+        let h = later step.state e in
         record {
           before = line ∷ h.before;
           line = h.line;
@@ -175,7 +177,7 @@ ended first state (line ∷ lines) number reason e = go (ltb 1048576 first) (lin
           led = (step, h.texts, is, refl, h.led);
           why = h.why;
         }
-    go false (Err found) is e =
+    go false (Err found) is e later =
         let n : first ≡ number = cc in
         let r : found ≡ reason = cc in
         record {

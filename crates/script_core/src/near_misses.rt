@@ -34,10 +34,10 @@ fn fits(pattern: &str, word: &str) -> bool {
 /// Returns the remedy for the first word that is nearly right, if there is one. The first word is the
 /// program's name.
 pub(crate) fn remedy_for(words: &[String]) -> Option<&'static str> {
-    let mut before = "";
+    let mut is_behind_trace = false;
     for word in words.iter().skip(1) {
         let word = word.as_str();
-        if before == "--trace" && (word == "json" || word == "hex") {
+        if is_behind_trace && (word == "json" || word == "hex") {
             return Some(TRACE_FORM);
         }
         for (pattern, remedy) in NEAR_MISSES {
@@ -45,7 +45,7 @@ pub(crate) fn remedy_for(words: &[String]) -> Option<&'static str> {
                 return Some(remedy);
             }
         }
-        before = word;
+        is_behind_trace = word == "--trace";
     }
     None
 }
