@@ -92,13 +92,20 @@ fn check_one<R: Input + Files + Print + Machine>(
     tally: &mut Tally,
 ) -> Result<(), Outcome> {
     let mut advice = String::new(alloc);
-    let ran = run_file(rt, alloc, path, &mut io::sink(), options, &mut advice);
-    let outcome = ran.unwrap_or(Outcome::Failed);
-    tally.count(outcome);
     let mut text = String::new(alloc);
-    let Ok(()) = put_result(&mut text, path, outcome, advice.as_str()) else {
-        return Err(Outcome::OutOfMemory);
+    let told = match run_file(rt, alloc, path, &mut io::sink(), options, &mut advice) {
+        Ok(outcome) => {
+            tally.count(outcome);
+            put_result(&mut text, path, outcome, advice.as_str())
+        }
+        Err(fault) => {
+            tally.count(Outcome::Failed);
+            write!(text, "failed {path}: it can't be read: {fault}")
+        }
     };
+    if told.is_err() {
+        return Err(Outcome::OutOfMemory);
+    }
     match println!(rt; "{text}") {
         Ok(()) => Ok(()),
         Err(_) => Err(Outcome::Failed),
