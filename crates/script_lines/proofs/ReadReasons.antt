@@ -1,6 +1,6 @@
 -- No line is unmet by its words alone.
-use Rattle.std.proofs.Common.{◌≡◌, ◌&&◌, ℕ, eqb, Bool, true, false, cond, List, [], ◌∷◌, length}
-use Rattle.std.proofs.Common.{nat_lt, Option, None, Some, Result, Ok, Err, codes, subst}
+use Rattle.std.proofs.Common.{◌&&◌, ℕ, eqb, Bool, true, false, cond, List, [], ◌∷◌, length}
+use Rattle.std.proofs.Common.{nat_lt, Option, None, Some, Result, Ok, Err, codes}
 use Rattle.std.specs.Str.{bytes_eq, is_utf8}
 use Rattle.erl_names.specs.Name.{is_node_name}
 use Rattle.erl_term.specs.Data.{Data, int, atom, tuple, list, improper, binary, pid, reference}
@@ -11,7 +11,6 @@ use Rattle.script_lines.specs.Lines as lines
 use Rattle.script_lines.specs.Naming.{atom_read, demonitor_named, fault_in, formed, free_in, is_atom, is_cookie, is_term, monitor_named, names_bound}
 use Rattle.script_lines.specs.Naming.{node_formed, nodes_formed, owner_named, process_in, process_named, processes_named, profile_in, profile_named}
 use Rattle.script_lines.specs.Naming.{reference_in, sender_named, spawn_formed, switch_named, term_read}
-use Rattle.script_lines.specs.Said.{Said}
 use Rattle.script_lines.specs.Words.{atom_and_text, atom_and_word, behind_word, from_word, no_words, not_empty, nothing, one_word, only_word}
 use Rattle.script_lines.specs.Words.{text_at, three_words, trimmed, two_words, two_words_or_three, word_and_text, word_at, word_of, word_or_none, words_and_text}
 use Rattle.script_lines.specs.declared.command.Verb.{Verb}
@@ -21,7 +20,7 @@ use Rattle.script_lines.specs.declared.reason.Reason.{Reason}
 use Rattle.script_lines.specs.declared.reason.Reason.TheVariants.{Unmet}
 use Rattle.script_terms.specs.Binding.{Look}
 use Rattle.script_terms.specs.Reading.{term_of}
-use Rattle.script_terms.specs.Spaces.{before_space, from_space}
+use Rattle.script_terms.specs.Spaces.{from_space}
 use Rattle.script_terms.specs.Unbound.{has_unbound}
 use Rattle.script_terms.specs.Words.{is_name}
 use Rattle.script_terms.specs.declared.fault.TermFault.{TermFault}

@@ -1,5 +1,5 @@
 -- The last reply of a script, and the lines that expect one.
-use Rattle.std.specs.Prelude.{ℕ, List, Option, None, Some, Result, Ok, Err, Bool}
+use Rattle.std.specs.Prelude.{ℕ, List, Option, None, Some, Bool}
 use Rattle.std.specs.Str.{bytes_eq}
 use Rattle.script_lines.specs.Breaks.{last_line, later}
 use Rattle.script_lines.specs.Said.{Said}

@@ -1,4 +1,4 @@
-use Rattle.std.proofs.Common.{[], List, ap, ◌∙◌, ℕ}
+use Rattle.std.proofs.Common.{List, ap, ◌∙◌, ℕ}
 use Rattle.std.specs.List.{slice_split}
 use Rattle.script_lines.specs.Breaks.{is_break, last_of}
 use Rattle.script_lines.proofs.BreakLemmas.{last_behind, last_there}

@@ -1,9 +1,9 @@
-use Rattle.std.proofs.Common.{◌≡◌, ℕ, List, [], ◌++◌, Ok, Some, None, Option, Result, ap, string_bytes, subst, sym, ◌∙◌}
+use Rattle.std.proofs.Common.{◌≡◌, ℕ, List, [], ◌++◌, Ok, Some, None, Option, ap, string_bytes, subst, sym, ◌∙◌}
 use Rattle.std.specs.Option.{option_copied}
 use Rattle.script_lines.specs.Replies.{expected, is_met, reply_after}
 use Rattle.script_lines.specs.Said.{said}
 use Rattle.script_lines.specs.declared.line.Line.{Line}
-use Rattle.script_session.specs.Session.{Step, does, is_taken, line_does, plays}
+use Rattle.script_session.specs.Session.{does, is_taken, line_does, plays}
 use Rattle.script_session.specs.Stands.{Compares, Plays, Steps}
 use Rattle.script_session.specs.declared.stage.Stage.{Stage}
 use Rattle.script_session.proofs.LineOutcomes.{behind, compared, early, passed, ran, reads, runs}
