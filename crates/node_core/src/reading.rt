@@ -1,9 +1,9 @@
 //! A new node, and the queries of a node.
-ghost use Rattle.std.specs.Prelude.{◌≡◌, ◌↔◌, IfOk, IsTrue, is_some};
+ghost use Rattle.std.specs.Prelude.{◌≡◌, ◌↔◌, IfOk, IsTrue, T, is_some};
 ghost use Rattle.std.specs.FinMap as fm;
 ghost use Rattle.std.specs.Option.{option_copied, option_map};
 ghost use Rattle.dist_model.specs.Losses.{any_side};
-ghost use Rattle.dist_model.specs.Node.{end_of, living, route, side_where};
+ghost use Rattle.dist_model.specs.Node.{end_of, ends_of, living, route, side_where};
 ghost use Rattle.dist_model.specs.Quiet.{nothing_between};
 ghost use Rattle.dist_model.specs.Runs.{new_node};
 ghost use Rattle.dist_model.specs.Sides.{holds, is_losing};
@@ -13,6 +13,8 @@ ghost use Rattle.node_core.specs.Model.{model_of};
 ghost use Rattle.node_tables.specs.Passing.{passes};
 ghost use Rattle.node_tables.specs.Standings.{side_of};
 ghost use Rattle.node_tables.specs.Lives.{life_of};
+ghost use Rattle.erl_term.specs.Order.{pid_cmp};
+ghost use Rattle.sorted_map.specs.Entries.{next};
 
 use crate::node::Node;
 use conn_core::Side;
@@ -20,6 +22,7 @@ use erl_handshake::Setup;
 use erl_names::{NodeName, TrunkId};
 use erl_term::{Atom, Pid};
 use link_core::End;
+use monitor_core::{Watchers, Watches};
 use node_connections::{Sweeping, is_whole};
 use node_plan::Node as State;
 use node_tables::{Life, Which};
@@ -98,6 +101,31 @@ impl Node {
         ensures { result ≡ end_of (model_of self.now) process.now partner.now }
     {
         self.state.end(process, partner)
+    }
+
+    /// Returns the first partner of a process behind the partner `behind`, in the order of the partners, and
+    /// the end towards it. [`None`] if there is none, or if the process isn't living. Takes time logarithmic
+    /// in the number of its links. (ERTS User's Guide, Distribution Protocol, New Link Protocol.)
+    pub fn next_link(&self, process: &Pid, behind: Option<&Pid>) -> Option<&(Pid, End)>
+        ensures link { option_copied result ≡ next pid_cmp (option_copied behind.entry) (ends_of (model_of self.now) process.now) }
+        ensures sorted { T (fm.is_sorted pid_cmp (ends_of (model_of self.now) process.now)) }
+    {
+        self.state.next_link(process, behind)
+    }
+
+    /// Returns the monitors that processes of the node own. (Reference Manual, Processes, Monitors.)
+    pub fn watches(&self) -> &Watches
+        ensures { result.now.monitors ≡ (model_of self.now).watches }
+    {
+        self.state.watches()
+    }
+
+    /// Returns the monitors that others have of processes of the node. (Reference Manual, Processes,
+    /// Monitors.)
+    pub fn watchers(&self) -> &Watchers
+        ensures { result.now.monitors ≡ (model_of self.now).registered }
+    {
+        self.state.watchers()
     }
 
     /// Returns true if nothing is in flight between two processes of the node.

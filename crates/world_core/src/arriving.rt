@@ -3,10 +3,11 @@ ghost use Rattle.std.specs.Prelude.{◌≡◌, ◌&&◌};
 ghost use Rattle.std.specs.FinMap as fm;
 ghost use Rattle.std.specs.List.{find};
 ghost use Rattle.std.specs.Option.{option_copied, option_map};
+ghost use Rattle.dist_model.specs.Seen.{side_of_trunk};
 ghost use Rattle.dist_model.specs.World.{World as TheWorld};
 ghost use Rattle.node_core.specs.Model.{model_of};
 ghost use Rattle.node_tables.specs.Standings.{side_of};
-ghost use Rattle.world_core.specs.Coming.{is_from, next_arrival, peer_on, side_in, takes, takes_from};
+ghost use Rattle.world_core.specs.Coming.{is_from, is_taken, next_arrival, peer_on, side_in, takes, takes_from};
 ghost use Rattle.world_core.specs.Stands.{StandsFor};
 
 use crate::queue::Queue;
@@ -79,6 +80,27 @@ fn first_in<'a>(
 }
 
 impl World {
+    /// Returns true if a node takes the frames that come on a connection: from a certain peer, or from any.
+    /// (ERTS User's Guide, Distribution Protocol; Reference Manual, Processes, Delivery of Signals.)
+    pub fn takes(&self, node: &Node, trunk: &TrunkId, from: Option<&Atom>) -> bool
+        ensures { (m : TheWorld) → StandsFor self.now m → result ≡ (is_taken m trunk.now (model_of node.now).mint.name
+            && takes_from (option_copied from.entry) trunk.now (fm.get (model_of node.now).sides trunk.now)) }
+    {
+        let own = self.node(node.name().atom());
+        is_taken(own, trunk) && takes_from(node, trunk, from)
+    }
+
+    /// Returns the node at the other end of a connection of the node of a name. The dialer's node is at the
+    /// other end of a connection of which the node has no side. (ERTS User's Guide, Distribution Protocol.)
+    pub fn peer_on<'a>(&'a self, node: &Atom, trunk: &'a TrunkId) -> &'a Atom
+        ensures { (m : TheWorld) → StandsFor self.now m → result.now ≡ peer_on trunk.now (side_of_trunk m node.now trunk.now) }
+    {
+        match self.node(node) {
+            Some(own) => peer_on(trunk, own.side(trunk)),
+            None => trunk.dialer.atom(),
+        }
+    }
+
     /// The least connection on which something comes to a node that the node takes: from a certain peer,
     /// or from any. (ERTS User's Guide, Distribution Protocol; Reference Manual, Processes, Delivery of
     /// Signals.)

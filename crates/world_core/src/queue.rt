@@ -68,14 +68,25 @@ impl Queue {
         }
     }
 
-    /// Returns a copy with the same frames.
-    pub(crate) fn copy(&self, alloc: Global) -> Result<Queue, AllocError>
-        ensures { IfOk result (λ copy. copy ≡ self.now) }
+    /// Returns copies of the frames, the first to come first.
+    ///
+    /// # Errors
+    /// [`AllocError`] if out of memory.
+    pub fn frames(&self, alloc: Global) -> Result<Vec<Frame>, AllocError>
+        ensures { IfOk result (λ frames. frames.items ≡ self.now) }
     {
         let (older, newer) = self.frames.as_slices();
         let mut copies = Vec::with_capacity(alloc, self.frames.len())?;
         push_copies(alloc, &mut copies, older)?;
         push_copies(alloc, &mut copies, newer)?;
+        Ok(copies)
+    }
+
+    /// Returns a copy with the same frames.
+    pub(crate) fn copy(&self, alloc: Global) -> Result<Queue, AllocError>
+        ensures { IfOk result (λ copy. copy ≡ self.now) }
+    {
+        let copies = self.frames(alloc)?;
         Ok(Queue {
             frames: VecDeque::from(copies),
         })

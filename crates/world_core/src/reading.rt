@@ -14,6 +14,7 @@ ghost use Rattle.world_core.specs.Names.{name_of};
 ghost use Rattle.world_core.specs.Quiet.{is_quiet_over, is_quiet_there};
 ghost use Rattle.world_core.specs.Stands.{StandsFor};
 
+use crate::lists::Lists;
 use crate::world::World;
 use conn_core::{Side, Standing};
 use erl_names::{NodeName, TrunkId};
@@ -53,6 +54,13 @@ impl World {
         ensures { result.now ≡ self.now.nodes.items }
     {
         &self.nodes
+    }
+
+    /// Returns the frames in flight between the nodes.
+    pub fn lists(&self) -> &Lists
+        ensures { result.now ≡ self.now.lists }
+    {
+        &self.lists
     }
 
     /// Returns the node of a name.
