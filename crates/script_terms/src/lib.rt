@@ -32,7 +32,7 @@ pub use fault::{ReadError, TermFault};
 pub use filling::filled;
 pub use laws::{one_line, read_again, read_values};
 pub use names::{Named, Names};
-pub use printing::{put_pid, put_reference, put_term};
+pub use printing::{put_atom, put_pid, put_reference, put_term};
 pub use reading::read_term;
 pub use spaces::split_at_space;
 pub use unbound::has_unbound;

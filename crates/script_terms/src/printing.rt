@@ -64,7 +64,7 @@ fn put_comma(out: &mut String, index: usize) -> Result<(), AllocError>
 
 /// Appends an atom of this text: bare where it can be written so, and else between quotes.
 #[tactic(auto, unfolding(crate::specs::Printing::atom_text))]
-fn put_atom(out: &mut String, text: &str) -> Result<(), AllocError>
+pub fn put_atom(out: &mut String, text: &str) -> Result<(), AllocError>
     ensures { OnOk result (string_bytes out.new ≡ string_bytes out.old ++ atom_text text.now) }
 {
     if is_bare(text) {

@@ -1,0 +1,5 @@
+pub mod Shown
+pub mod Monitors
+pub mod Trunks
+pub mod Whole
+pub mod Forms

@@ -1,0 +1,4 @@
+pub mod OneLine
+pub mod Walked
+pub mod Frames
+pub mod InFlight

@@ -1,0 +1,2 @@
+pub mod Travelling
+pub mod Shown
