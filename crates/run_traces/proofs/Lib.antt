@@ -1,0 +1,4 @@
+pub mod Walked
+pub mod Noted
+pub mod Spelled
+pub mod Effects
