@@ -8,7 +8,7 @@ use Rattle.erl_term.specs.Reading.{◌>>=◌}
 use Rattle.script_lines.specs.Commands.{verb_named}
 use Rattle.script_lines.specs.Lines.{found, line_says, node_in, nodes_in, placed, process_and_term_in, processes_and_term_in, processes_in, verb_says, words_say}
 use Rattle.script_lines.specs.Lines as lines
-use Rattle.script_lines.specs.Naming.{atom_read, demonitor_named, fault_in, formed, free_in, is_atom, is_cookie, is_term, monitor_named, names_bound}
+use Rattle.script_lines.specs.Naming.{all_in, atom_read, demonitor_named, fault_in, formed, free_in, is_atom, is_cookie, is_term, monitor_named, names_bound}
 use Rattle.script_lines.specs.Naming.{node_formed, nodes_formed, owner_named, process_in, process_named, processes_named, profile_in, profile_named}
 use Rattle.script_lines.specs.Naming.{reference_in, sender_named, spawn_formed, switch_named, term_read}
 use Rattle.script_lines.specs.Words.{atom_and_text, atom_and_word, behind_word, from_word, no_words, not_empty, nothing, one_word, only_word}
@@ -17,7 +17,7 @@ use Rattle.script_lines.specs.declared.command.Verb.{Verb}
 use Rattle.script_lines.specs.declared.command.Verb.TheVariants as verb
 use Rattle.script_lines.specs.declared.reading.MayCome.{MayCome}
 use Rattle.script_lines.specs.declared.reason.Reason.{Reason}
-use Rattle.script_lines.specs.declared.reason.Reason.TheVariants.{Unmet}
+use Rattle.script_lines.specs.declared.reason.Reason.TheVariants.{Unmet, WrongWords}
 use Rattle.script_terms.specs.Binding.{Look}
 use Rattle.script_terms.specs.Reading.{term_of}
 use Rattle.script_terms.specs.Spaces.{from_space}
@@ -217,6 +217,10 @@ process_term look rest =
     then (word_and_text rest) _ (word_text rest) (λ words. then (process_named look words.0) _ (one_process look words.0) (λ p.
     then (term_read look words.1) _ (term look words.1) (λ _. tt)))
 
+all_of : (word : Option (List ℕ)) → IsRead (all_in word)
+all_of None = tt
+all_of (Some word) = pick (bytes_eq word (codes "all")) (Ok true) (Err WrongWords) tt tt
+
 verb_read : (may : MayCome) (look : Look) (v : Verb) (rest : List ℕ) → IsRead (verb_says may look v rest)
 verb_read may look verb.Node rest =
     then (two_words_or_three rest) _ (two_or_three rest) (λ words. then (profile_in words.2) _ (a_profile words.2) (λ _.
@@ -256,13 +260,15 @@ verb_read may look verb.Ends rest = then (processes_in look rest) _ (processes l
 verb_read may look verb.Receive rest = then (lines.process_in look rest) _ (a_process look rest) (λ _. tt)
 verb_read may look verb.Links rest = then (lines.process_in look rest) _ (a_process look rest) (λ _. tt)
 verb_read may look verb.Alive rest = then (lines.process_in look rest) _ (a_process look rest) (λ _. tt)
+verb_read may look verb.Monitors rest = then (lines.process_in look rest) _ (a_process look rest) (λ _. tt)
 verb_read may look verb.Unregister rest = then (lines.process_in look rest) _ (a_process look rest) (λ _. tt)
 verb_read may look verb.Stop rest = then (node_in rest) _ (a_node rest) (λ _. tt)
 verb_read may look verb.Start rest = then (node_in rest) _ (a_node rest) (λ _. tt)
 verb_read may look verb.Local rest = then (node_in rest) _ (a_node rest) (λ _. tt)
 verb_read may look verb.Sweep rest = then (node_in rest) _ (a_node rest) (λ _. tt)
 verb_read may look verb.Settle rest = then (no_words rest) _ (none rest) (λ _. tt)
-verb_read may look verb.Show rest = then (no_words rest) _ (none rest) (λ _. tt)
+verb_read may look verb.Show rest =
+    then (word_or_none rest) _ (only (word_of rest) (behind_word rest)) (λ word. then (all_in word) _ (all_of word) (λ _. tt))
 verb_read may look verb.Expect rest =
     then (text_at rest) _ (the_text rest) (λ words. then (names_bound look words) _ (bound look words) (λ _. tt))
 verb_read may look v rest = then (nodes_in rest) _ (nodes rest) (λ _. tt)

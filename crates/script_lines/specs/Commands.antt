@@ -3,8 +3,8 @@ use Rattle.std.specs.Prelude.{ℕ, List, Option, None, Some, codes, if◌then◌
 use Rattle.std.specs.Str.{bytes_eq}
 use Rattle.script_lines.specs.declared.command.Verb.{Verb}
 use Rattle.script_lines.specs.declared.command.Verb.TheVariants.{Node, Pair, Spawn, Send, Link, Unlink, Monitor, Demonitor}
-use Rattle.script_lines.specs.declared.command.Verb.TheVariants.{Trap, Exit, Die, Receive, Links, Alive}
-use Rattle.script_lines.specs.declared.command.Verb.TheVariants.{Register, Unregister, WhereIs, SendName, MonitorName, Ends, Dial, Route}
+use Rattle.script_lines.specs.declared.command.Verb.TheVariants.{Trap, Exit, Die, Receive, Links, Alive, Monitors}
+use Rattle.script_lines.specs.declared.command.Verb.TheVariants.{Register, Unregister, WhereIs, SendName, MonitorName, Ends, Dial, Route, Travels, Why}
 use Rattle.script_lines.specs.declared.command.Verb.TheVariants.{Lose, Cut, Stop, Start, Deliver, Local, Sweep, Settle, Show, Expect}
 
 abbrev pub verb_named : List ℕ → Option Verb
@@ -23,6 +23,7 @@ verb_named word =
     else if bytes_eq word (codes "receive") then Some Receive
     else if bytes_eq word (codes "links") then Some Links
     else if bytes_eq word (codes "alive") then Some Alive
+    else if bytes_eq word (codes "monitors") then Some Monitors
     else if bytes_eq word (codes "register") then Some Register
     else if bytes_eq word (codes "unregister") then Some Unregister
     else if bytes_eq word (codes "whereis") then Some WhereIs
@@ -31,6 +32,8 @@ verb_named word =
     else if bytes_eq word (codes "ends") then Some Ends
     else if bytes_eq word (codes "dial") then Some Dial
     else if bytes_eq word (codes "route") then Some Route
+    else if bytes_eq word (codes "travels") then Some Travels
+    else if bytes_eq word (codes "why") then Some Why
     else if bytes_eq word (codes "lose") then Some Lose
     else if bytes_eq word (codes "cut") then Some Cut
     else if bytes_eq word (codes "stop") then Some Stop

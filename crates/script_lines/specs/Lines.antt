@@ -5,10 +5,10 @@ use Rattle.std.specs.Str.{is_utf8}
 use Rattle.erl_term.specs.Reading.{◌>>=◌}
 use Rattle.script_lines.specs.Commands.{verb_named}
 use Rattle.script_lines.specs.Naming.{process_named, processes_named, sender_named, monitor_named, owner_named, demonitor_named}
-use Rattle.script_lines.specs.Naming.{nodes_formed, node_formed, spawn_formed, formed, switch_named, profile_in, atom_read, term_read, names_bound}
+use Rattle.script_lines.specs.Naming.{nodes_formed, node_formed, spawn_formed, all_in, formed, switch_named, profile_in, atom_read, term_read, names_bound}
 use Rattle.script_lines.specs.Said.{Said, said}
 use Rattle.script_lines.specs.Said as says
-use Rattle.script_lines.specs.Words.{word_of, behind_word, no_words, one_word, two_words, two_words_or_three, three_words, text_at}
+use Rattle.script_lines.specs.Words.{word_of, behind_word, no_words, one_word, two_words, two_words_or_three, three_words, text_at, word_or_none}
 use Rattle.script_lines.specs.Words.{atom_and_text, atom_and_word, word_and_text, words_and_text}
 use Rattle.script_lines.specs.declared.command.Verb.{Verb}
 use Rattle.script_lines.specs.declared.command.Verb.TheVariants as verb
@@ -79,9 +79,12 @@ verb_says may look verb.Ends rest = processes_in look rest >>= λ pids. Ok (says
 verb_says may look verb.Receive rest = process_in look rest >>= λ p. Ok (says.Receive p)
 verb_says may look verb.Links rest = process_in look rest >>= λ p. Ok (says.Links p)
 verb_says may look verb.Alive rest = process_in look rest >>= λ p. Ok (says.Alive p)
+verb_says may look verb.Monitors rest = process_in look rest >>= λ p. Ok (says.Monitors p)
 verb_says may look verb.Unregister rest = process_in look rest >>= λ p. Ok (says.Unregister p)
 verb_says may look verb.Dial rest = nodes_in rest >>= λ nodes. Ok (says.Dial nodes.0 nodes.1)
 verb_says may look verb.Route rest = nodes_in rest >>= λ nodes. Ok (says.Route nodes.0 nodes.1)
+verb_says may look verb.Travels rest = nodes_in rest >>= λ nodes. Ok (says.Travels nodes.0 nodes.1)
+verb_says may look verb.Why rest = nodes_in rest >>= λ nodes. Ok (says.Why nodes.0 nodes.1)
 verb_says may look verb.Lose rest = nodes_in rest >>= λ nodes. Ok (says.Lose nodes.0 nodes.1)
 verb_says may look verb.Cut rest = nodes_in rest >>= λ nodes. Ok (says.Cut nodes.0 nodes.1)
 verb_says may look verb.Deliver rest = nodes_in rest >>= λ nodes. Ok (says.Deliver nodes.0 nodes.1)
@@ -90,7 +93,7 @@ verb_says may look verb.Start rest = node_in rest >>= λ node. Ok (says.Start no
 verb_says may look verb.Local rest = node_in rest >>= λ node. Ok (says.Local node)
 verb_says may look verb.Sweep rest = node_in rest >>= λ node. Ok (says.Sweep node)
 verb_says may look verb.Settle rest = no_words rest >>= λ _. Ok says.Settle
-verb_says may look verb.Show rest = no_words rest >>= λ _. Ok says.Show
+verb_says may look verb.Show rest = word_or_none rest >>= λ word. all_in word >>= λ all. Ok (says.Show all)
 verb_says may look verb.Expect rest = text_at rest >>= λ words. names_bound look words >>= λ _. Ok (says.Expect words)
 
 abbrev pub found : Option Verb → Result Verb Reason

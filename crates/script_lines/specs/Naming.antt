@@ -87,6 +87,11 @@ node_formed name cookie = formed (is_node_name name && is_cookie cookie)
 abbrev pub switch_named : List ℕ → Result Bool Reason
 switch_named word = if bytes_eq word (codes "on") then Ok true else if bytes_eq word (codes "off") then Ok false else Err WrongWords
 
+-- the words behind a command that shows less or all
+abbrev pub all_in : Option (List ℕ) → Result Bool Reason
+all_in None = Ok false
+all_in (Some word) = if bytes_eq word (codes "all") then Ok true else Err WrongWords
+
 abbrev pub profile_named : List ℕ → Result Profile Reason
 profile_named word =
     if bytes_eq word (codes "1") then Ok Profile.One

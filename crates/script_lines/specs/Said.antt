@@ -21,6 +21,7 @@ pub data Said : Type 0 where
   Receive : (process : Pid) → Said
   Links : (process : Pid) → Said
   Alive : (process : Pid) → Said
+  Monitors : (process : Pid) → Said
   Register : (process : Pid) → (name : List ℕ) → Said
   Unregister : (process : Pid) → Said
   WhereIs : (node name : List ℕ) → Said
@@ -29,6 +30,8 @@ pub data Said : Type 0 where
   Ends : (first second : Pid) → Said
   Dial : (node peer : List ℕ) → Said
   Route : (node peer : List ℕ) → Said
+  Travels : (node peer : List ℕ) → Said
+  Why : (node peer : List ℕ) → Said
   Lose : (node peer : List ℕ) → Said
   Cut : (node peer : List ℕ) → Said
   Stop : (node : List ℕ) → Said
@@ -37,7 +40,7 @@ pub data Said : Type 0 where
   Local : (node : List ℕ) → Said
   Sweep : (node : List ℕ) → Said
   Settle : Said
-  Show : Said
+  Show : (all : Bool) → Said
   Expect : (words : List ℕ) → Said
 
 abbrev pub said : Line → Said
@@ -55,6 +58,7 @@ said (line.Die process term) = Die process.now term.now
 said (line.Receive process) = Receive process.now
 said (line.Links process) = Links process.now
 said (line.Alive process) = Alive process.now
+said (line.Monitors process) = Monitors process.now
 said (line.Register process name) = Register process.now name.now
 said (line.Unregister process) = Unregister process.now
 said (line.WhereIs node name) = WhereIs node.now name.now
@@ -63,6 +67,8 @@ said (line.MonitorName owner node atom name) = MonitorName owner.now node.now at
 said (line.Ends first second) = Ends first.now second.now
 said (line.Dial node peer) = Dial node.now peer.now
 said (line.Route node peer) = Route node.now peer.now
+said (line.Travels node peer) = Travels node.now peer.now
+said (line.Why node peer) = Why node.now peer.now
 said (line.Lose node peer) = Lose node.now peer.now
 said (line.Cut node peer) = Cut node.now peer.now
 said (line.Stop node) = Stop node.now
@@ -71,5 +77,5 @@ said (line.Deliver node peer) = Deliver node.now peer.now
 said (line.Local node) = Local node.now
 said (line.Sweep node) = Sweep node.now
 said line.Settle = Settle
-said line.Show = Show
+said (line.Show all) = Show all
 said (line.Expect words) = Expect words.now

@@ -33,6 +33,8 @@ pub enum Verb {
     Links,
     /// `alive`
     Alive,
+    /// `monitors`
+    Monitors,
     /// `register`
     Register,
     /// `unregister`
@@ -49,6 +51,10 @@ pub enum Verb {
     Dial,
     /// `route`
     Route,
+    /// `travels`
+    Travels,
+    /// `why`
+    Why,
     /// `lose`
     Lose,
     /// `cut`
@@ -91,6 +97,7 @@ impl Verb {
             "receive" => Some(Verb::Receive),
             "links" => Some(Verb::Links),
             "alive" => Some(Verb::Alive),
+            "monitors" => Some(Verb::Monitors),
             "register" => Some(Verb::Register),
             "unregister" => Some(Verb::Unregister),
             "whereis" => Some(Verb::WhereIs),
@@ -99,6 +106,8 @@ impl Verb {
             "ends" => Some(Verb::Ends),
             "dial" => Some(Verb::Dial),
             "route" => Some(Verb::Route),
+            "travels" => Some(Verb::Travels),
+            "why" => Some(Verb::Why),
             "lose" => Some(Verb::Lose),
             "cut" => Some(Verb::Cut),
             "stop" => Some(Verb::Stop),

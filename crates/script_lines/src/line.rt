@@ -75,6 +75,10 @@ pub enum Line<'a> {
     Alive {
         process: &'a Pid,
     },
+    /// `monitors p`
+    Monitors {
+        process: &'a Pid,
+    },
     /// `register p ATOM`
     Register {
         process: &'a Pid,
@@ -118,6 +122,16 @@ pub enum Line<'a> {
         node: &'a str,
         peer: &'a str,
     },
+    /// `travels NODE PEER`
+    Travels {
+        node: &'a str,
+        peer: &'a str,
+    },
+    /// `why NODE PEER`
+    Why {
+        node: &'a str,
+        peer: &'a str,
+    },
     /// `lose NODE PEER`
     Lose {
         node: &'a str,
@@ -151,8 +165,10 @@ pub enum Line<'a> {
     },
     /// `settle`
     Settle,
-    /// `show`
-    Show,
+    /// `show`, and `show all`
+    Show {
+        all: bool,
+    },
     /// `expect WORDS`, with a bound name behind each `$` outside of quotes.
     Expect {
         words: &'a str,

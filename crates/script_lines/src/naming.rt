@@ -1,7 +1,7 @@
 //! The things that the words of a line name.
 ghost use Rattle.std.specs.Prelude.{◌≡◌, ◌&&◌};
 ghost use Rattle.std.specs.Option.{option_copied};
-ghost use Rattle.script_lines.specs.Naming.{atom_read, begins_atom, demonitor_named, formed, free_in, is_cookie, is_cookie_length, is_printable, monitor_named, names_bound, node_formed, nodes_formed, owner_named, process_in, process_named, processes_named, profile_in, profile_named, reference_in, sender_named, spawn_formed, switch_named, term_read};
+ghost use Rattle.script_lines.specs.Naming.{all_in, atom_read, begins_atom, demonitor_named, formed, free_in, is_cookie, is_cookie_length, is_printable, monitor_named, names_bound, node_formed, nodes_formed, owner_named, process_in, process_named, processes_named, profile_in, profile_named, reference_in, sender_named, spawn_formed, switch_named, term_read};
 ghost use Rattle.script_lines.specs.Words.{Answers};
 ghost use Rattle.script_terms.specs.Binding.{Look, Knows};
 ghost use Rattle.script_terms.specs.declared.names.Named.{Named};
@@ -179,6 +179,17 @@ pub(crate) fn switch_named(word: &str) -> Result<bool, Reason>
         "on" => Ok(true),
         "off" => Ok(false),
         _ => Err(Reason::WrongWords),
+    }
+}
+
+/// Returns true for the word `all`, and false if there is no word.
+pub(crate) fn all_in(word: Option<&str>) -> Result<bool, Reason>
+    ensures { result ≡ all_in (option_copied word.entry) }
+{
+    match word {
+        Some("all") => Ok(true),
+        Some(_) => Err(Reason::WrongWords),
+        None => Ok(false),
     }
 }
 

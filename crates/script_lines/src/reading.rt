@@ -8,14 +8,14 @@ ghost use Rattle.script_terms.specs.Binding.{Look, Knows};
 use crate::command::Verb;
 use crate::line::Line;
 use crate::naming::{
-    atom_read, demonitor_named, formed, monitor_named, names_bound, node_formed, nodes_formed,
-    owner_named, process_named, processes_named, profile_in, sender_named, spawn_formed,
-    switch_named, term_read,
+    all_in, atom_read, demonitor_named, formed, monitor_named, names_bound, node_formed,
+    nodes_formed, owner_named, process_named, processes_named, profile_in, sender_named,
+    spawn_formed, switch_named, term_read,
 };
 use crate::reason::Reason;
 use crate::words::{
     atom_and_text, atom_and_word, first_word, no_words, one_word, text_at, three_words, two_words,
-    two_words_or_three, word_and_text, words_and_text,
+    two_words_or_three, word_and_text, word_or_none, words_and_text,
 };
 use erl_names::NodeName;
 use erl_term::Pid;
@@ -206,6 +206,14 @@ fn monitorname_line<'a>(names: &'a Names, rest: &'a str) -> Result<Line<'a>, Rea
     })
 }
 
+fn show_line(rest: &str) -> Result<Line<'_>, Reason>
+    ensures { (may_come : MayCome) (look : Look) → Reads (verb_says may_come look verb.Show rest.now) result }
+{
+    let word = word_or_none(rest)?;
+    let all = all_in(word)?;
+    Ok(Line::Show { all })
+}
+
 fn expect_line<'a>(names: &Names, rest: &'a str) -> Result<Line<'a>, Reason>
     ensures { (may_come : MayCome) (look : Look) → Knows names.now look → Reads (verb_says may_come look verb.Expect rest.now) result }
 {
@@ -254,9 +262,12 @@ fn read_verb<'a>(
         Verb::Receive => process_in(names, rest).map(|process| Line::Receive { process }),
         Verb::Links => process_in(names, rest).map(|process| Line::Links { process }),
         Verb::Alive => process_in(names, rest).map(|process| Line::Alive { process }),
+        Verb::Monitors => process_in(names, rest).map(|process| Line::Monitors { process }),
         Verb::Unregister => process_in(names, rest).map(|process| Line::Unregister { process }),
         Verb::Dial => nodes_in(rest).map(|(node, peer)| Line::Dial { node, peer }),
         Verb::Route => nodes_in(rest).map(|(node, peer)| Line::Route { node, peer }),
+        Verb::Travels => nodes_in(rest).map(|(node, peer)| Line::Travels { node, peer }),
+        Verb::Why => nodes_in(rest).map(|(node, peer)| Line::Why { node, peer }),
         Verb::Lose => nodes_in(rest).map(|(node, peer)| Line::Lose { node, peer }),
         Verb::Cut => nodes_in(rest).map(|(node, peer)| Line::Cut { node, peer }),
         Verb::Deliver => nodes_in(rest).map(|(node, peer)| Line::Deliver { node, peer }),
@@ -265,7 +276,7 @@ fn read_verb<'a>(
         Verb::Local => node_in(rest).map(|node| Line::Local { node }),
         Verb::Sweep => node_in(rest).map(|node| Line::Sweep { node }),
         Verb::Settle => no_words(rest).map(|()| Line::Settle),
-        Verb::Show => no_words(rest).map(|()| Line::Show),
+        Verb::Show => show_line(rest),
         Verb::Expect => expect_line(names, rest),
     }
 }

@@ -4,7 +4,7 @@ use strsim::levenshtein;
 
 /// Each command with its words. Capitals stand for a text, brackets for an optional word, and other words
 /// for a name.
-const USAGES: [&str; 32] = [
+const USAGES: [&str; 35] = [
     "node NAME COOKIE [PROFILE]",
     "pair",
     "spawn NODE name",
@@ -19,6 +19,7 @@ const USAGES: [&str; 32] = [
     "receive p",
     "links p",
     "alive p",
+    "monitors p",
     "register p ATOM",
     "unregister p",
     "whereis NODE ATOM",
@@ -27,6 +28,8 @@ const USAGES: [&str; 32] = [
     "ends p q",
     "dial NODE PEER",
     "route NODE PEER",
+    "travels NODE PEER",
+    "why NODE PEER",
     "lose NODE PEER",
     "cut NODE PEER",
     "stop NODE",
@@ -35,7 +38,7 @@ const USAGES: [&str; 32] = [
     "local NODE",
     "sweep NODE",
     "settle",
-    "show",
+    "show [all]",
     "expect WORDS",
 ];
 

@@ -79,8 +79,8 @@ pub(crate) fn two_words(text: &str) -> Result<(&str, &str), Reason>
     Ok((first, second))
 }
 
-// Returns the word of a text, or None if the text has no word.
-fn word_or_none(text: &str) -> Result<Option<&str>, Reason>
+/// Returns the word of a text, or [`None`] if the text has no word.
+pub(crate) fn word_or_none(text: &str) -> Result<Option<&str>, Reason>
     ensures { Answers (λ word. option_copied word) result (word_or_none text.now) }
 {
     let (word, rest) = first_word(text);

@@ -32,3 +32,6 @@ returns-in-MonitorName c = λ look knows. rw c.in-MonitorName.is (c.monitorname_
 
 pub returns-in-Expect : goal.returns-in-Expect
 returns-in-Expect c = λ look knows. rw c.in-Expect.is (c.expect_line.ensures c.args.may_come look knows)
+
+pub returns-in-Show : goal.returns-in-Show
+returns-in-Show c = λ look knows. rw c.in-Show.is (c.show_line.ensures c.args.may_come look)
