@@ -7,6 +7,7 @@ use Rattle.dist_model.specs.declared.report.Answer.TheVariants as answer
 use Rattle.dist_model.specs.declared.report.Effect.{Effect}
 use Rattle.dist_model.specs.declared.report.Kind.{Kind}
 use Rattle.dist_model.specs.declared.report.Report.{Report}
+use Rattle.erl_handshake.specs.declared.profile.Profile.{Profile}
 use Rattle.erl_names.specs.declared.trunk.TrunkId.{TrunkId}
 use Rattle.erl_term.specs.Data as terms
 use Rattle.erl_term.specs.declared.refusal.Refusal.{Refusal}
@@ -15,7 +16,7 @@ use Rattle.link_core.specs.declared.end.End.{End}
 use Rattle.node_frames.specs.Frames.{Framed}
 use Rattle.script_json.specs.Events.{command_data, event_data}
 use Rattle.node_frames.specs.Kinds.{kind_in}
-use Rattle.script_json.specs.Reports.{answer_data, brought, came_data, effect_data, holder_data, kind_data, line_data, link_data, message_data}
+use Rattle.script_json.specs.Reports.{answer_data, brought, came_data, effect_data, holder_data, kind_data, line_data, link_data, message_data, node_data}
 use Rattle.script_json.specs.Texts.{connection_if}
 use Rattle.serde_json.specs.View.{items_of}
 use Rattle.serde_json.specs.Written.{has_float, items_have_float}
@@ -68,6 +69,9 @@ in_event : (e : NodeEvent) → has_float (event_data e) ≡ false
 in_event (event.Call c) = in_command c
 in_event _ = refl
 
-pub in_line : (node : List ℕ) (e : NodeEvent) (came : Result (Report Framed) Refusal)
-    → has_float (line_data node (event_data e) came) ≡ false
-in_line node e came = rw (in_came came, in_effects (brought came), in_event e) refl
+pub in_line : (node : List ℕ) (line : ℕ) (e : NodeEvent) (came : Result (Report Framed) Refusal)
+    → has_float (line_data node line (event_data e) came) ≡ false
+in_line node line e came = rw (in_came came, in_effects (brought came), in_event e) refl
+
+pub in_node : (node : List ℕ) (line : ℕ) (cookie : List ℕ) (profile : Profile) → has_float (node_data node line cookie profile) ≡ false
+in_node node line cookie profile = refl

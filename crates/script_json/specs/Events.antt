@@ -1,7 +1,8 @@
 -- Events at a node, in JSON: an object with the kind of the event, and its parameters.
-use Rattle.std.specs.Prelude.{codes}
+use Rattle.std.specs.Prelude.{ℕ, List, codes}
 use Rattle.dist_model.specs.declared.command.Command.{Command}
 use Rattle.dist_model.specs.declared.command.Command.TheVariants as command
+use Rattle.erl_handshake.specs.declared.profile.Profile.{Profile}
 use Rattle.script_json.specs.Texts.{atom, connection, monitor, payload, process}
 use Rattle.serde_json.specs.Data.{Data, boolean, member, no_members, number, object, string, unsigned}
 use Rattle.node_core.specs.declared.node_event.NodeEvent.{NodeEvent}
@@ -51,11 +52,12 @@ command_data (command.Unregister p) =
 command_data (command.WhereIs name) =
     object (member (codes "kind") (string (codes "whereis")) (member (codes "name") (atom name) no_members))
 
--- the object of an arrival leaves out the challenge, which only a new connection uses
+-- only a node to which the connection is new uses the challenge of an arrival
 abbrev pub event_data : NodeEvent → Data
 event_data (event.Call command) = command_data command
 event_data (event.Arrive trunk word) =
-    object (member (codes "kind") (string (codes "arrive")) (member (codes "trunk") (connection trunk) no_members))
+    object (member (codes "challenge") (number (unsigned word))
+    (member (codes "kind") (string (codes "arrive")) (member (codes "trunk") (connection trunk) no_members)))
 event_data event.Local = object (member (codes "kind") (string (codes "local")) no_members)
 event_data (event.Lose trunk) =
     object (member (codes "kind") (string (codes "lose")) (member (codes "trunk") (connection trunk) no_members))
@@ -65,3 +67,15 @@ event_data (event.Dial peer word) =
     (member (codes "kind") (string (codes "dial")) (member (codes "peer") (string peer) no_members)))
 event_data event.Stop = object (member (codes "kind") (string (codes "stop")) no_members)
 event_data event.Start = object (member (codes "kind") (string (codes "start")) no_members)
+
+-- ---- a node comes into the world of a script
+
+abbrev pub profile_number : Profile → ℕ
+profile_number Profile.One = 1
+profile_number Profile.Two = 2
+profile_number Profile.Three = 3
+
+abbrev pub joined_data : (cookie : List ℕ) → Profile → Data
+joined_data cookie profile =
+    object (member (codes "cookie") (string cookie)
+    (member (codes "kind") (string (codes "node")) (member (codes "profile") (number (unsigned (profile_number profile))) no_members)))

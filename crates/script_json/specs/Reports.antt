@@ -6,6 +6,7 @@ use Rattle.dist_model.specs.declared.report.Answer.TheVariants as answer
 use Rattle.dist_model.specs.declared.report.Effect.{Effect}
 use Rattle.dist_model.specs.declared.report.Kind.{Kind}
 use Rattle.dist_model.specs.declared.report.Report.{Report}
+use Rattle.erl_handshake.specs.declared.profile.Profile.{Profile}
 use Rattle.erl_term.specs.Data as terms
 use Rattle.erl_term.specs.ErrorNumbers.{refusal_name, refusal_number}
 use Rattle.erl_term.specs.declared.refusal.Refusal.{Refusal}
@@ -14,7 +15,7 @@ use Rattle.hex.specs.Hex.{encode_upper}
 use Rattle.link_core.specs.declared.end.End.{End}
 use Rattle.node_frames.specs.Frames.{Framed}
 use Rattle.node_frames.specs.Kinds.{kind_in}
-use Rattle.script_json.specs.Events.{event_data}
+use Rattle.script_json.specs.Events.{event_data, joined_data}
 use Rattle.script_json.specs.Texts.{connection, connection_if, monitor, payload, process}
 use Rattle.script_texts.specs.Texts.{end_text}
 use Rattle.script_texts.specs.Words.{fault_name, kind_name, swept_name}
@@ -101,11 +102,22 @@ abbrev pub brought : Result (Report Framed) Refusal → List (Effect Framed)
 brought (Ok report) = report.effects.items
 brought (Err refusal) = []
 
-abbrev pub line_data : (node : List ℕ) → (event : Data) → Result (Report Framed) Refusal → Data
-line_data node event came =
-    object (member (codes "answer") (came_data came) (member (codes "effects") (effects_data (brought came))
-    (member (codes "event") event (member (codes "node") (string node) no_members))))
+-- the number is that of the script's line, from 1
+abbrev pub parts_data : (node : List ℕ) → (line : ℕ) → (event answer effects : Data) → Data
+parts_data node line event answer effects =
+    object (member (codes "answer") answer (member (codes "effects") effects (member (codes "event") event
+    (member (codes "line") (number (unsigned line)) (member (codes "node") (string node) no_members)))))
+
+abbrev pub line_data : (node : List ℕ) → (line : ℕ) → (event : Data) → Result (Report Framed) Refusal → Data
+line_data node line event came = parts_data node line event (came_data came) (effects_data (brought came))
 
 -- the text of a line, without its line break
-unfoldable pub line_text : (node : List ℕ) → NodeEvent → Result (Report Framed) Refusal → List ℕ
-line_text node event came = compact_text (line_data node (event_data event) came)
+unfoldable pub line_text : (node : List ℕ) → (line : ℕ) → NodeEvent → Result (Report Framed) Refusal → List ℕ
+line_text node line event came = compact_text (line_data node line (event_data event) came)
+
+-- the same of a node that comes into the world, in its first incarnation
+abbrev pub node_data : (node : List ℕ) → (line : ℕ) → (cookie : List ℕ) → Profile → Data
+node_data node line cookie profile = parts_data node line (joined_data cookie profile) (answer_data (answer.Started 1)) (effects_data [])
+
+unfoldable pub node_text : (node : List ℕ) → (line : ℕ) → (cookie : List ℕ) → Profile → List ℕ
+node_text node line cookie profile = compact_text (node_data node line cookie profile)

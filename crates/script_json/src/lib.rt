@@ -1,8 +1,8 @@
 //! Events and their reports in JSON, an object a line, for machines.
 //!
-//! [`event`] tells what happens at a node, before it does, and [`put_line`] appends the line, once it has
-//! happened. What an object has is in specs/Events and specs/Reports, as data of serde_json, which writes
-//! the text.
+//! [`event`] returns an event at a node, before it happens, and [`put_line`] appends its line, once it has
+//! happened. [`put_node`] appends the line of a node. specs/Events and specs/Reports define the objects, as data of
+//! serde_json, which writes the text.
 #![tactic(auto)]
 
 mod answers;
@@ -14,4 +14,4 @@ mod objects;
 mod texts;
 
 pub use events::event;
-pub use lines::put_line;
+pub use lines::{put_line, put_node};

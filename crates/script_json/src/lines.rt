@@ -1,13 +1,15 @@
 //! A line for each event.
 ghost use Rattle.std.specs.Prelude.{◌≡◌, ◌++◌, IfOk, OnOk, codes, string_bytes};
 ghost use Rattle.script_json.specs.Events.{event_data};
-ghost use Rattle.script_json.specs.Reports.{brought, came_data, line_data, line_text};
+ghost use Rattle.script_json.specs.Reports.{brought, came_data, line_data, line_text, node_data, node_text, parts_data};
 ghost use Rattle.serde_json.specs.View.{view};
 ghost use Rattle.node_core.specs.declared.node_event.NodeEvent.{NodeEvent};
 
 use crate::answers::{answer, refusal};
 use crate::effects::effects;
-use dist_model::{Effect, Report};
+use crate::events::joined;
+use dist_model::{Answer, Effect, Report};
+use erl_handshake::Profile;
 use erl_term::Refusal;
 use node_frames::Frame;
 use serde_json::{Value, json};
@@ -31,47 +33,117 @@ fn brought(came: &Result<Report<Frame>, Refusal>) -> &[Effect<Frame>]
     }
 }
 
-fn line(
+// Returns the object of a line.
+fn parts(
     alloc: Global,
     node: &str,
+    line: u64,
+    event: Value,
+    answer: Value,
+    effects: Value,
+) -> Result<Value, AllocError>
+    ensures { IfOk result (λ v. view v ≡ parts_data node.now line (view event) (view answer) (view effects)) }
+{
+    json!(in alloc; {"answer": answer, "effects": effects, "event": event, "line": line, "node": node})
+}
+
+fn line_of(
+    alloc: Global,
+    node: &str,
+    line: u64,
     event: Value,
     report: &Result<Report<Frame>, Refusal>,
 ) -> Result<Value, AllocError>
-    ensures { IfOk result (λ v. view v ≡ line_data node.now (view event) report.now) }
+    ensures { IfOk result (λ v. view v ≡ line_data node.now line (view event) report.now) }
 {
     let (answer, effects) = (came(alloc, report)?, effects(alloc, brought(report))?);
-    json!(in alloc; {"answer": answer, "effects": effects, "event": event, "node": node})
+    parts(alloc, node, line, event, answer, effects)
 }
 
-// The text of a line.
+// Returns the text of a line.
 fn text(
     alloc: Global,
     node: &str,
+    line: u64,
     event: Value,
     came: &Result<Report<Frame>, Refusal>,
 ) -> Result<String, AllocError>
-    ensures { (happened : NodeEvent) → view event ≡ event_data happened → IfOk result (λ text. string_bytes text ≡ line_text node.now happened came.now) }
+    ensures { (happened : NodeEvent) → view event ≡ event_data happened → IfOk result (λ text. string_bytes text ≡ line_text node.now line happened came.now) }
 {
-    line(alloc, node, event, came)?.to_string(alloc)
+    line_of(alloc, node, line, event, came)?.to_string(alloc)
 }
 
-/// Appends a line: an object with the name of the node, the event as [`crate::event`] tells it, what the
-/// node answers or why it refuses, and what the event brought about. Its text is JSON, and ends with a
-/// line break.
+// Appends the text of a line, and its line break.
+fn put_text(out: &mut String, text: &str) -> Result<(), AllocError>
+    ensures { OnOk result (string_bytes out.new ≡ string_bytes out.old ++ text.now ++ codes "\n") }
+{
+    out.push_str(text)?;
+    out.push_str("\n")
+}
+
+/// Appends a line of JSON: an object with the name of the node, the number of the script's line, the event as
+/// [`crate::event`] returns it, the answer or the refusal of the node, and the effects of the event.
 ///
 /// # Errors
-/// Where memory is wanting.
+/// [`AllocError`] if out of memory.
 pub fn put_line(
     alloc: Global,
     out: &mut String,
     node: &str,
+    line: u64,
     event: Value,
     came: &Result<Report<Frame>, Refusal>,
 ) -> Result<(), AllocError>
     ensures { (happened : NodeEvent) → view event ≡ event_data happened →
-        OnOk result (string_bytes out.new ≡ string_bytes out.old ++ line_text node.now happened came.now ++ codes "\n") }
+        OnOk result (string_bytes out.new ≡ string_bytes out.old ++ line_text node.now line happened came.now ++ codes "\n") }
 {
-    let text = text(alloc, node, event, came)?;
-    out.push_str(text.as_str())?;
-    out.push_str("\n")
+    let text = text(alloc, node, line, event, came)?;
+    put_text(out, text.as_str())
+}
+
+fn node_of(
+    alloc: Global,
+    node: &str,
+    line: u64,
+    cookie: &str,
+    profile: Profile,
+) -> Result<Value, AllocError>
+    ensures { IfOk result (λ v. view v ≡ node_data node.now line cookie.now profile) }
+{
+    let event = joined(alloc, cookie, profile)?;
+    let answer = answer(alloc, &Answer::Started(1))?;
+    let effects = effects(alloc, &[])?;
+    parts(alloc, node, line, event, answer, effects)
+}
+
+// Returns the text of the line of a node.
+fn text_of_node(
+    alloc: Global,
+    node: &str,
+    line: u64,
+    cookie: &str,
+    profile: Profile,
+) -> Result<String, AllocError>
+    ensures { IfOk result (λ text. string_bytes text ≡ node_text node.now line cookie.now profile) }
+{
+    node_of(alloc, node, line, cookie, profile)?.to_string(alloc)
+}
+
+/// Appends a line of JSON of a node that comes into the world of a script: as [`put_line`], with its cookie and
+/// the number of its profile as the event, and its first incarnation as the answer.
+///
+/// # Errors
+/// [`AllocError`] if out of memory.
+pub fn put_node(
+    alloc: Global,
+    out: &mut String,
+    node: &str,
+    line: u64,
+    cookie: &str,
+    profile: Profile,
+) -> Result<(), AllocError>
+    ensures { OnOk result (string_bytes out.new ≡ string_bytes out.old ++ node_text node.now line cookie.now profile ++ codes "\n") }
+{
+    let text = text_of_node(alloc, node, line, cookie, profile)?;
+    put_text(out, text.as_str())
 }

@@ -9,6 +9,7 @@ pub returns : goal.returns
 unfolding line_text
 returns c happened is =
     let node = c.args.node.now in
-    let same = c.in_ok-line.ensures ∙ ap (λ e. line_data node e c.args.came.now) is in
+    let line = c.args.line in
+    let same = c.in_ok-line_of.ensures ∙ ap (λ e. line_data node line e c.args.came.now) is in
     IfOk-weaker c.to_string.result _ _
-    (λ s h. h (ap has_float same ∙ in_line node happened c.args.came.now) ∙ ap compact_text same) c.to_string.ensures.text
+    (λ s h. h (ap has_float same ∙ in_line node line happened c.args.came.now) ∙ ap compact_text same) c.to_string.ensures.text
