@@ -6,7 +6,7 @@ ghost use Rattle.run_diagrams.specs.Recording.{Adds, IsRecorded, IsRowFor, IsRow
 
 use crate::labels::put_label;
 use crate::names::ProcessNames;
-use crate::notes::{lost, of_answer, of_effect};
+use crate::notes::{Words, lost, of_answer, of_effect};
 use crate::queues::Ways;
 use crate::recorder::{Recorder, place_of};
 use crate::row::{put_refusal, put_reply, put_words};
@@ -200,6 +200,21 @@ fn give_up(
     }
 }
 
+// Returns the words for the answer of a node about a connection, or about itself.
+fn answered(
+    alloc: Global,
+    ways: &Ways,
+    node: &str,
+    trunk: Option<&TrunkId>,
+    answer: &Answer,
+) -> Result<Option<Words>, AllocError> {
+    let peer = match trunk {
+        Some(trunk) => ways.peer_on(trunk, node),
+        None => None,
+    };
+    of_answer(alloc, peer, answer)
+}
+
 // What a report says of the node.
 fn put_report(
     alloc: Global,
@@ -217,7 +232,11 @@ fn put_report(
 {
     put_reply(alloc, row, spot.node, &report.answer)?;
     put_connection(alloc, ways, row, spot, trunk, &report.answer)?;
-    put_words(row, spot.lane, of_answer(alloc, &report.answer)?)?;
+    put_words(
+        row,
+        spot.lane,
+        answered(alloc, ways, spot.node, trunk, &report.answer)?,
+    )?;
     give_up(alloc, ways, row, spot.node, &report.answer)?;
     put_effects(alloc, ways, row, spot, &report.effects)
 }

@@ -2,12 +2,14 @@
 
 use crate::messages::put_message;
 use crate::names::ProcessNames;
+use conn_core::Fault;
 use diagram::Tone;
 use dist_model::{Answer, Effect, Kind, Swept};
+use erl_names::NodeName;
 use erl_term::{Payload, Pid};
 use link_core::End;
 use script_terms::put_term;
-use script_texts::{put_answer, put_end};
+use script_texts::{fault_name, put_answer, put_end};
 use std::alloc::{AllocError, Global};
 
 /// Words about a node.
@@ -83,23 +85,43 @@ fn of_swept(alloc: Global, swept: Swept) -> Result<Option<Words>, AllocError> {
     plain(alloc, Tone::Plain, words)
 }
 
+// Returns the words for a side that comes up, towards this peer.
+fn connected(alloc: Global, peer: Option<&NodeName>) -> Result<Option<Words>, AllocError> {
+    let Some(peer) = peer else {
+        return plain(alloc, Tone::Calm, "connected");
+    };
+    let name = peer.text();
+    let words = format!(in alloc; "connected to {name}")?;
+    Ok(Some(Words {
+        tone: Tone::Calm,
+        words,
+    }))
+}
+
+// Returns the words for a side that breaks.
+fn broken(alloc: Global, fault: Fault) -> Result<Option<Words>, AllocError> {
+    let (number, name) = (fault.number(), fault_name(fault));
+    let words = format!(in alloc; "broken: {number} {name}")?;
+    Ok(Some(Words {
+        tone: Tone::Alarm,
+        words,
+    }))
+}
+
 /// Returns the words for an answer on the lane of its node. [`None`] unless a side comes up or breaks, a
-/// sweep removes a record, or the node stops or starts.
+/// sweep removes a record, or the node stops or starts. `peer` is the node at the other end of the connection.
 ///
 /// # Errors
 /// [`AllocError`] if out of memory.
-pub(crate) fn of_answer(alloc: Global, answer: &Answer) -> Result<Option<Words>, AllocError> {
+pub(crate) fn of_answer(
+    alloc: Global,
+    peer: Option<&NodeName>,
+    answer: &Answer,
+) -> Result<Option<Words>, AllocError> {
     match answer {
-        Answer::Took(Kind::ChallengeReply) => plain(alloc, Tone::Calm, "connected"),
-        Answer::Took(Kind::ChallengeAck) => plain(alloc, Tone::Calm, "connected"),
-        Answer::Broken(fault) => {
-            let number = fault.number();
-            let words = format!(in alloc; "broken: {number}")?;
-            Ok(Some(Words {
-                tone: Tone::Alarm,
-                words,
-            }))
-        }
+        Answer::Took(Kind::ChallengeReply) => connected(alloc, peer),
+        Answer::Took(Kind::ChallengeAck) => connected(alloc, peer),
+        Answer::Broken(fault) => broken(alloc, *fault),
         Answer::Swept(swept) => of_swept(alloc, *swept),
         Answer::Stopped => plain(alloc, Tone::Alarm, "stopped"),
         Answer::Started(creation) => {

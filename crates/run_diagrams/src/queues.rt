@@ -86,6 +86,14 @@ impl Ways {
         u32::try_from(place).map_err(|_| AllocError)
     }
 
+    /// Returns the node at the other end of a connection of the node of this name, if an item was sent to it.
+    pub(crate) fn peer_on(&self, trunk: &TrunkId, node: &str) -> Option<&NodeName> {
+        self.ways
+            .iter()
+            .find(|way| way.trunk == *trunk && way.to.text() != node)
+            .map(|way| &way.to)
+    }
+
     /// The numbers of all ways to a node.
     ///
     /// # Errors
