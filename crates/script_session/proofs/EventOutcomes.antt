@@ -1,23 +1,22 @@
 -- The outcome of an event in a world, unless memory was wanting.
-use Rattle.std.proofs.Common.{◌≡◌, Bool, true, false, cond, ℕ, List, [], ◌++◌, Ok, Err, refl, sym, ap, subst, ◌∙◌, inl, inr}
-use Rattle.std.specs.List.{flat_map}
+use Rattle.std.proofs.Common.{◌≡◌, ℕ, List, ◌++◌, Option, Ok, Err, sym, ap, subst, ◌∙◌, inl, inr}
 use Rattle.dist_model.specs.Names.{Name}
 use Rattle.dist_model.specs.Runs.{Goes}
-use Rattle.dist_model.specs.World.{Event, Refused, Report, Reported, World, step}
-use Rattle.dist_model.specs.declared.report.Effect.{Effect}
-use Rattle.dist_model.specs.declared.report.Report.{Report as Told}
+use Rattle.dist_model.specs.World.{Event, Refused, Report, Reported, World, node_name, step}
 use Rattle.erl_term.specs.declared.refusal.Refusal.{Refusal}
-use Rattle.node_frames.specs.Frames.{Framed}
-use Rattle.script_session.specs.Stage.{sent_in, sents, Stage as TheStage}
-use Rattle.script_session.specs.declared.stage.Stage.{Stage}
-use Rattle.script_session.specs.Stands.{Moved}
-use Rattle.world_core.specs.Ran.{Came}
-use Rattle.node_core.specs.Told.{Answered, Tells}
+use Rattle.node_core.proofs.EventNamed.{event_named}
 use Rattle.node_core.specs.NodeEvents.{event_at}
+use Rattle.node_core.specs.Told.{Answered, Tells}
+use Rattle.node_core.specs.declared.node_event.NodeEvent.{NodeEvent}
+use Rattle.run_traces.proofs.Spelled.{sent_spelled}
+use Rattle.run_traces.specs.Breaks.{breaks_with, broken_by, source}
+use Rattle.run_traces.specs.Traces.{AreSentSpelled, effects_of, trace_text}
+use Rattle.script_session.specs.Stage.{Stage as TheStage}
+use Rattle.script_session.specs.Stands.{Applied, IsKept, Moved}
+use Rattle.script_session.specs.declared.stage.Stage.{Stage}
+use Rattle.world_core.specs.Ran.{Came}
 use Rattle.world_core.specs.Stands.{StandsFor}
 use Rattle.world_core.specs.declared.world.World.{World as Code}
-use Rattle.node_core.proofs.EventNamed.{event_named}
-use Rattle.node_core.specs.declared.node_event.NodeEvent.{NodeEvent}
 
 -- the world stands for the model's, and the answer tells its report
 pub record Stepped (new : Code) (m : World) (e : Event) (answer : Answered) : Type 0 where
@@ -42,38 +41,40 @@ stepped new m e answer c some = go c.goes
     go (inl h) = record { stands = subst (StandsFor new) h.1 c.stands; tells = subst (Tells answer) h.0 c.tells }
     go (inr h) = absurd (some (wanting answer c.report c.tells h.0))
 
--- the sent frames of an event that was accepted
-pub accepted : (told : Told Framed) (report : Report) (trace : Bool) (node : Name) → Tells (Ok told) report
-    → sents trace node report ≡ cond trace (flat_map (sent_in node) told.effects.items) []
-accepted told (Refused why) trace node t = absurd t
-accepted told (Reported a effects) true node t = ap (flat_map (sent_in node)) (sym t.1)
-accepted told (Reported a effects) false node t = refl
-
-pub not_wanting : (told : Told Framed) (answer : Answered) → answer ≡ Ok told → answer ≡ Err Refusal.OutOfMemory → ⊥
-not_wanting told (Ok x) h e = cc
-not_wanting told (Err why) h e = cc
-
--- an accepted event, with what was printed of it
-pub moved : (it : TheStage) (new : Stage) (name : Name) (e : NodeEvent) (answer : Answered) (told : Told Framed) (before out : List ℕ)
-    → Came new.world it.world (event_at name e) answer → answer ≡ Ok told
-    → new.word ≡ it.word → new.trace ≡ it.trace
-    → out ≡ before ++ cond it.trace (flat_map (sent_in name) told.effects.items) []
-    → Moved (event_at name e) it new before out (Ok told)
-moved it new name e answer told before out c is word trace text =
-    let s = stepped new.world it.world (event_at name e) answer c (not_wanting told answer is) in
-    let report : Report = (step it.world (event_at name e)).report in
-    let t = subst (λ a. Tells a report) is s.tells in
+-- an event has happened, and memory was enough
+pub applied : (it : TheStage) (new : Stage) (e : Event) (came answer : Answered) → Came new.world it.world e came → IsKept came answer
+    → new.word ≡ it.word → new.trace ≡ it.trace → broken_by new.breaks ≡ it.breaks → Applied e it new answer
+applied it new e came answer c kept word trace breaks =
+    let s = stepped new.world it.world e came c (λ h. kept.1 (kept.0 ∙ h)) in
     record {
       world = s.stands;
       word = word;
       trace = trace;
-      text =
-          text ∙ ap (λ (sent : List ℕ). before ++ sent) (sym (ap (λ n. sents it.trace n report) (event_named name e) ∙ accepted told report it.trace name t));
-      tells = t;
+      breaks = breaks;
+      tells = subst (λ a. Tells a (step it.world e).report) (sym kept.0) s.tells;
     }
 
--- the printed text, said of equal things
-pub printed : (before out node name : List ℕ) (trace other : Bool) (effects items : List (Effect Framed))
-    → out ≡ before ++ cond trace (flat_map (sent_in node) effects) [] → trace ≡ other → node ≡ name → effects ≡ items
-    → out ≡ before ++ cond other (flat_map (sent_in name) items) []
-printed before out node name trace other effects items e t n k = e ∙ (λ i. before ++ cond (t i) (flat_map (sent_in (n i)) (k i)) [])
+-- its trace is printed, and its break noted
+pub moved : (it : TheStage) (old new : Stage) (name : Name) (e : NodeEvent) (came : Answered) (source_is : Option Name) (before out : List ℕ)
+    → (a : Applied (event_at name e) it old came) → source_is ≡ source it.world (event_at name e)
+    → new.world ≡ old.world → new.word ≡ old.word → new.trace ≡ old.trace
+    → out ≡ before ++ trace_text old.trace name source_is (step it.world (event_at name e)).report
+    → broken_by new.breaks ≡ breaks_with name source_is (step it.world (event_at name e)).report (broken_by old.breaks)
+    → Moved (event_at name e) it new before out came
+moved it old new name e came source_is before out a from world word trace text breaks =
+    let event = event_at name e in
+    let report = (step it.world event).report in
+    let named = sym (event_named name e) in
+    record {
+      world = subst (λ w. StandsFor w (step it.world event).world) (sym world) a.world;
+      word = word ∙ a.word;
+      trace = trace ∙ a.trace;
+      breaks = breaks ∙ (λ i. breaks_with (named i) (from i) report (a.breaks i));
+      text = text ∙ (λ i. before ++ trace_text (a.trace i) (named i) (from i) report);
+      tells = a.tells;
+    }
+
+-- each item that it sends has a spelling
+pub told_spelled : (it : TheStage) (now : Stage) (e : Event) (came : Answered) → Applied e it now came
+    → AreSentSpelled (effects_of (step it.world e).report)
+told_spelled it now e came a = sent_spelled now.world it.world e a.world

@@ -1,10 +1,10 @@
 -- Some events lead to the world after each line.
-use Rattle.std.proofs.Common.{◌≡◌, ℕ, zero, suc, Bool, true, false, cond, List, [], ◌∷◌, ◌++◌, Option}
+use Rattle.std.proofs.Common.{◌≡◌, ℕ, zero, suc, Bool, true, false, cond, not, List, [], ◌∷◌, ◌++◌, Option}
 use Rattle.std.proofs.Common.{None, Some, Result, Ok, Err, IfOk, refl, sym, ap, subst, ◌∙◌, inl}
 use Rattle.std.proofs.lemmas.List.{map-append}
 use Rattle.std.specs.FinMap as fm
 use Rattle.dist_model.specs.Names.{Name}
-use Rattle.dist_model.specs.Node.{Node, route}
+use Rattle.dist_model.specs.Node.{Node, living, route}
 use Rattle.dist_model.specs.Runs.{new_node, opening}
 use Rattle.dist_model.specs.World.{Arrive, Call, Dial, Event, Local, Lose, Start, Stop, Sweep, World, node_of, step}
 use Rattle.dist_model.specs.declared.command.Command.{Command}
@@ -15,12 +15,13 @@ use Rattle.script_lines.specs.Replies.{expected, is_met}
 use Rattle.script_lines.specs.Said.{Said}
 use Rattle.script_lines.specs.Said as says
 use Rattle.script_lines.specs.declared.reason.Reason.{Reason}
+use Rattle.run_traces.specs.Traces.{louder}
 use Rattle.script_session.specs.Connections as connections
 use Rattle.script_session.specs.Connections.{arrives, coming_to, lose, lose_all}
 use Rattle.script_session.specs.Connections.{lose_at, lose_live, lose_on, live_sides, is_any}
 use Rattle.script_session.specs.Pairs.{pair_nodes, pair_plays, pair_stage}
 use Rattle.script_session.specs.Session.{State, asks, does, expects, is_taken, joined, line_does}
-use Rattle.script_session.specs.Session.{may_come, moves, plays, plays_as, says_does, starts, stays}
+use Rattle.script_session.specs.Session.{may_come, monitored_at, moves, shows, plays, plays_as, says_does, starts, stays}
 use Rattle.script_session.specs.Stage as stage
 use Rattle.script_session.specs.Stage.{Scene, Stage, after, play}
 use Rattle.script_session.specs.Stands.{IsLed, IsOpening}
@@ -28,7 +29,10 @@ use Rattle.script_session.specs.Turns.{settles, takes_turn, turn}
 use Rattle.script_session.specs.declared.connections.Live.{Live}
 use Rattle.script_session.proofs.NodesFirst.{node_comes_early}
 use Rattle.script_terms.specs.Binding.{Look}
+use Rattle.node_texts.specs.Monitors.{monitors_text}
 use Rattle.script_texts.specs.Texts.{route_text}
+use Rattle.world_texts.specs.Travelling.{travelling, travels_text}
+use Rattle.erl_term.specs.declared.term.Pid.{Pid}
 use Rattle.world_core.proofs.Reached.{reached_next}
 use Rattle.world_core.specs.Stands.{IsReached}
 use Rattle.erl_handshake.specs.declared.profile.Profile.{Profile}
@@ -50,9 +54,9 @@ play_led (event ∷ rest) it h = play_led rest (after it (event it.word)) (after
 opening_led : (world : World) → IsOpening world → IsReached world
 opening_led world o = record { nodes = o.0; events = []; reports = []; runs = o.1 }
 
-pair_led : (word : ℕ) → Led (pair_stage word)
-pair_led word =
-    play_led pair_plays (record { world = opening pair_nodes; word = word; trace = true })
+pair_led : (it : Stage) → Led (pair_stage it)
+pair_led it =
+    play_led pair_plays (record it { world = opening pair_nodes; trace = louder it.trace })
     (opening_led (opening pair_nodes) (pair_nodes, refl))
 
 -- ---- turns
@@ -78,6 +82,10 @@ arrives_led (Ok trunk) name it h = after_led it (Arrive trunk name it.word) h
 arrives_led (Err why) name it h = h
 
 -- a look at a connection is no event
+explained_led : (o : Option Node) (name peer : Name) (it : Stage) → Led it → Led (connections.explains_at o name peer it).stage
+explained_led None name peer it h = h
+explained_led (Some node) name peer it h = h
+
 shown_led : (b : Bool) (x y : Scene) (it : Stage) → x.stage ≡ it → y.stage ≡ it → Led it → Led (cond b x y).stage
 shown_led true x y it e f h = subst Led (sym e) h
 shown_led false x y it e f h = subst Led (sym f) h
@@ -86,6 +94,26 @@ route_led : (o : Option Node) (peer : Name) (it : Stage) → Led it → Led (con
 route_led None peer it h = h
 route_led (Some node) peer it h =
     shown_led node.up (stage.says (route_text (route node peer)) it) (connections.refuses Refusal.NodeDown it) it refl refl h
+
+travels_led : (o : Option Node) (peer : Name) (it : Stage) → Led it → Led (connections.travels_at o peer it).stage
+travels_led None peer it h = h
+travels_led (Some node) peer it h =
+    shown_led node.up (stage.says (travels_text (travelling it.world node peer)) it) (connections.refuses Refusal.NodeDown it) it refl refl h
+
+monitors_led : (o : Option Node) (p : Pid) (it : Stage) → Led it → Led (monitored_at o p it).stage
+monitors_led None p it h = h
+monitors_led (Some node) p it h = go (not node.up) (living node p)
+  where
+    go : (down lives : Bool)
+        → Led (cond down (connections.refuses Refusal.NodeDown it)
+        (cond lives (stage.says (monitors_text node p) it) (connections.refuses Refusal.NoSuchProcess it))).stage
+    go true lives = h
+    go false true = h
+    go false false = h
+
+show_led : (all : Bool) (it : Stage) → Led it → Led (shows all it).stage
+show_led true it h = h
+show_led false it h = h
 
 on_led : (name : Name) (trunk : Option TrunkId) (it : Stage) → Led it → Led (lose_on name trunk it)
 on_led name None it h = h
@@ -131,10 +159,13 @@ joined_opens world name cookie profile o = (
 
 moves_led : (said : Said) (it : Stage) → Led it → (starts said ≡ false → IsOpening it.world) → Led (moves said it).stage
 moves_led (says.Node name cookie profile) it h o = opening_led _ (joined_opens it.world name cookie profile (o refl))
-moves_led says.Pair it h o = pair_led it.word
+moves_led says.Pair it h o = pair_led it
 moves_led (says.Spawn node name) it h o = after_led it (Call node Command.Spawn) h
 moves_led (says.Dial node peer) it h o = after_led it (Dial node peer it.word) h
 moves_led (says.Route node peer) it h o = route_led (node_of it.world.nodes node) peer it h
+moves_led (says.Monitors process) it h o = monitors_led (node_of it.world.nodes process.node) process it h
+moves_led (says.Travels node peer) it h o = travels_led (node_of it.world.nodes node) peer it h
+moves_led (says.Why node peer) it h o = explained_led (node_of it.world.nodes node) node peer it h
 moves_led (says.Lose node peer) it h o = lose_led node peer it h
 moves_led (says.Cut node peer) it h o = lose_led peer node (lose node peer it).stage (lose_led node peer it h)
 moves_led (says.Stop node) it h o = after_led it (Stop node) h
@@ -142,6 +173,7 @@ moves_led (says.Start node) it h o = after_led it (Start node) h
 moves_led (says.Deliver node peer) it h o = arrives_led (coming_to it.world node peer) node it h
 moves_led (says.Local node) it h o = after_led it (Local node) h
 moves_led (says.Sweep node) it h o = after_led it (Sweep node) h
+moves_led (says.Show all) it h o = show_led all it h
 moves_led says.Settle it h o = settles_led 1000000 it h
 moves_led said it h o = h
 

@@ -29,7 +29,8 @@ use Rattle.erl_names.specs.Order.{name_cmp, trunk_cmp}
 use Rattle.erl_names.specs.declared.trunk.TrunkId.{TrunkId}
 use Rattle.node_connections.proofs.Firsts.{none_found, none_is}
 use Rattle.script_session.specs.Stage.{Stage, after}
-use Rattle.script_session.specs.Touched.{AreIdle, effects_of, is_sent_to, is_touched}
+use Rattle.run_traces.specs.Traces.{effects_of}
+use Rattle.script_session.specs.Touched.{AreIdle, is_sent_to, is_touched}
 use Rattle.script_session.specs.Turns.{first_turn, turn, turn_at}
 use Rattle.world_core.specs.Coming.{next_arrival, side_in, takes, takes_from}
 

@@ -2,7 +2,6 @@ pub mod NodesFirst
 pub mod EventsLead
 pub mod PairStages
 pub mod LineOutcomes
-pub mod Shows
 pub mod EventOutcomes
 pub mod Turns
 pub mod Idle

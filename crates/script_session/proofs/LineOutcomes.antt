@@ -1,5 +1,5 @@
 -- The outcome of a line that is read.
-use Rattle.std.proofs.Common.{◌≡◌, ℕ, true, false, cond, List, [], ◌++◌, Option, None, Some, Result, Ok, Err, append-nil, refl, sym, ap, subst, ◌∙◌}
+use Rattle.std.proofs.Common.{◌≡◌, ℕ, false, cond, List, [], ◌∷◌, ◌++◌, drop, length, Option, None, Some, Result, Ok, Err, append-nil, refl, sym, ap, subst, ◌∙◌}
 use Rattle.dist_model.specs.Names.{Name}
 use Rattle.script_lines.specs.Lines.{ReadsSome, line_says}
 use Rattle.script_lines.specs.Replies.{expected, is_met, reply_after}
@@ -74,45 +74,36 @@ runs state bytes it says e free =
     ∙ ap (λ o. expects o state (cond (is_taken it state.stage.world.names) (Err Reason.NameTaken) (Ok (does it state)))) e
     ∙ ap (λ b. cond b (Err Reason.NameTaken) (Ok (does it state))) free
 
--- or has a name that is taken
-pub taken : (state : State) (bytes : List ℕ) (it : Said) → line_says (may_come state) state.names bytes ≡ Ok (Some it)
-    → expected it ≡ None → is_taken it state.stage.world.names ≡ true → line_does state bytes ≡ Err Reason.NameTaken
-taken state bytes it says e free =
-    ap (says_does state) says
-    ∙ ap (λ o. expects o state (cond (is_taken it state.stage.world.names) (Err Reason.NameTaken) (Ok (does it state)))) e
-    ∙ ap (λ b. cond b (Err Reason.NameTaken) (Ok (does it state))) free
-
 -- a node comes where nothing has happened
 pub early : (session : Session) (state : State) (bytes : List ℕ) (it : Said) → IsSession session state
     → line_says (may_come state) state.names bytes ≡ Ok (Some it) → starts it ≡ false → IsOpening state.stage.world
 early session state bytes it h says s = h.opening (node_comes_early state bytes it says s)
 
+-- the output of a command stands behind what was printed before
+pub drop_before : (before text : List ℕ) → drop (length before) (before ++ text) ≡ text
+drop_before [] text = refl
+drop_before (c ∷ cs) text = drop_before cs text
+
 -- the session after a command
-pub ran : (session new : Session) (state : State) (it : Said) (name : List ℕ) (made : Made) (out : List ℕ)
+pub ran : (session new : Session) (state : State) (it : Said) (name : List ℕ) (made : Made) (out text printed : List ℕ)
     → IsSession session state → (starts it ≡ false → IsOpening state.stage.world)
-    → Plays (plays state.names it state.stage) new.stage [] out made
+    → Plays (plays state.names it state.stage) new.stage out text made
     → name ≡ new_name it → Knows new.names (binds name made state.names)
-    → new.reply.line.items ≡ reply_after out session.reply.line.items → new.started ≡ starts it
-    → Steps (Ok (does it state)) new [] out
-ran session new state it name made out h early played named knows replied started = record {
+    → printed ≡ drop (length out) text
+    → new.reply.line.items ≡ reply_after printed session.reply.line.items → new.started ≡ starts it
+    → (due : Result Step Reason) → due ≡ Ok (does it state) → Steps due new out text
+ran session new state it name made out text printed h early played named knows behind replied started due is = record {
   step = does it state;
-  says = refl;
+  says = is;
   state = record {
     stage = played.stage;
     names = subst (Knows new.names) (λ i. binds (named i) (played.made i) state.names) knows;
-    reply = replied ∙ (λ i. reply_after (played.text i) (h.reply i));
+    reply = replied ∙ (λ i. reply_after (last i) (h.reply i));
     started = started;
     opening = λ s. plays_opens state.names it state.stage s (early s);
   };
   text = played.text;
 }
-
--- the output of a command behind what was printed before
-pub behind : (does : Result Step Reason) (session : Session) (out text : List ℕ) (due : Result Step Reason) → due ≡ does
-    → Steps does session [] text → Steps due session out (out ++ text)
-behind does session out text due is s = record {
-  step = s.step;
-  says = is ∙ s.says;
-  state = s.state;
-  text = ap (λ (t : List ℕ). out ++ t) s.text;
-}
+  where
+    last : printed ≡ (plays state.names it state.stage).text
+    last = behind ∙ ap (drop (length out)) played.text ∙ drop_before out (plays state.names it state.stage).text

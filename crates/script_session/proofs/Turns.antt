@@ -2,7 +2,7 @@
 use Rattle.std.proofs.Common.{◌≡◌, ℕ, suc, Bool, true, not, is_some, List, [], ◌++◌, Option, None, Some}
 use Rattle.std.proofs.Common.{Result, Ok, Err, OnOk, append_assoc, append-nil, refl, sym, ap, subst, ◌∙◌}
 use Rattle.dist_model.specs.World.{Event}
-use Rattle.script_session.specs.Stage.{Scene, Stage as TheStage, after, says, sents_of}
+use Rattle.script_session.specs.Stage.{Scene, Stage as TheStage, after, says, trace_of}
 use Rattle.script_session.specs.Stands.{IsStage, Plays}
 use Rattle.script_session.specs.Touched.{AreIdle, Turned}
 use Rattle.script_session.specs.Turns.{settles, takes_turn, turn}
@@ -18,7 +18,7 @@ behind_both : (a b : List ℕ) (scene : Scene) → behind a (behind b scene) ≡
 behind_both a b scene = λ i. record { stage = scene.stage; text = sym (append_assoc a b scene.text) i; made = scene.made }
 
 one_turn : (most : ℕ) (it : TheStage) (event : Event) → turn it ≡ Some event
-    → settles (suc most) it ≡ behind (sents_of it event) (settles most (after it event))
+    → settles (suc most) it ≡ behind (trace_of it event) (settles most (after it event))
 unfolding settles
 one_turn most it event h = ap (λ (next : Option Event). takes_turn next it (settles most)) h
 
@@ -46,7 +46,7 @@ pub goes_on : (most : ℕ) (it : TheStage) (left rest idle still : ℕ) (self ne
     (g : Going most it left idle self before out) → left ≡ suc rest → turn g.now ≡ Some event
     → Turned event g.now new out more still → Going most it rest still new before more
 goes_on most it left rest idle still self new before out more event g l t turned =
-    let sent = sents_of g.now event in
+    let sent = trace_of g.now event in
     record {
       now = after g.now event;
       done = g.done ++ sent;

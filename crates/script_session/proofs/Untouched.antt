@@ -16,7 +16,8 @@ use Rattle.node_frames.specs.Frames.{shown}
 use Rattle.script_session.proofs.Idle.{before, behind_idle, idle_after, names_in, names_kept}
 use Rattle.script_session.specs.Stage.{Stage as TheStage, after}
 use Rattle.script_session.specs.Stands.{Happened, IsStage}
-use Rattle.script_session.specs.Touched.{AreIdle, Turned, effects_of, is_sent_to, is_touched}
+use Rattle.run_traces.specs.Traces.{effects_of}
+use Rattle.script_session.specs.Touched.{AreIdle, Turned, is_sent_to, is_touched}
 use Rattle.script_session.specs.Turns.{first_turn, turn}
 use Rattle.script_session.specs.declared.stage.Stage.{Stage}
 use Rattle.node_core.proofs.EventNamed.{event_named}

@@ -10,11 +10,13 @@ use Rattle.dist_model.specs.World.{Arrive, Lose, World, node_of}
 use Rattle.erl_names.specs.Order.{trunk_cmp}
 use Rattle.erl_names.specs.declared.trunk.TrunkId.{TrunkId}
 use Rattle.erl_term.specs.declared.refusal.Refusal.{Refusal}
+use Rattle.run_traces.specs.Breaks.{why_text}
 use Rattle.script_session.specs.Stage.{Scene, Stage, after, happens, says}
 use Rattle.script_session.specs.declared.connections.Live.{Live}
 use Rattle.script_texts.specs.Texts.{done_text, refused_text, route_text}
 use Rattle.std.specs.declared.cmp.Ordering.{Ordering}
 use Rattle.world_core.specs.Coming.{next_arrival}
+use Rattle.world_texts.specs.Travelling.{travelling, travels_text}
 
 abbrev pub refuses : Refusal → Stage → Scene
 refuses why stage = says (refused_text why) stage
@@ -48,6 +50,25 @@ route_at (Some node) peer stage = if node.up then says (route_text (route node p
 
 abbrev pub routes : (node peer : Name) → Stage → Scene
 routes node peer stage = route_at (node_of stage.world.nodes node) peer stage
+
+-- ---- the items in flight from a peer
+
+abbrev pub travels_at : Option Node → (peer : Name) → Stage → Scene
+travels_at None peer stage = refuses Refusal.NothingThere stage
+travels_at (Some node) peer stage =
+    if node.up then says (travels_text (travelling stage.world node peer)) stage else refuses Refusal.NodeDown stage
+
+abbrev pub travels : (node peer : Name) → Stage → Scene
+travels node peer stage = travels_at (node_of stage.world.nodes node) peer stage
+
+-- ---- the fault by which the last connection to a peer broke
+
+abbrev pub explains_at : Option Node → (node peer : Name) → Stage → Scene
+explains_at None name peer stage = refuses Refusal.NothingThere stage
+explains_at (Some node) name peer stage = says (why_text (stage.breaks name peer)) stage
+
+abbrev pub explains : (node peer : Name) → Stage → Scene
+explains node peer stage = explains_at (node_of stage.world.nodes node) node peer stage
 
 -- ---- a node loses its connection to a peer, and gives up its attempts at one, in the order of the connections' names. It
 -- has at most one of each kind

@@ -1,7 +1,6 @@
 pub mod Stage
 pub mod Turns
 pub mod Connections
-pub mod Shown
 pub mod Pairs
 pub mod Session
 pub mod Stands

@@ -1,6 +1,6 @@
 -- The pair of a script: two nodes a@h and b@h of the second profile with a process each, and a connection between them that is up.
 -- The dialer is a@h.
-use Rattle.std.specs.Prelude.{ℕ, true, List, [], ◌∷◌, codes}
+use Rattle.std.specs.Prelude.{ℕ, List, [], ◌∷◌, codes}
 use Rattle.dist_model.specs.Names.{Name}
 use Rattle.dist_model.specs.Runs.{opening}
 use Rattle.dist_model.specs.World.{Arrive, Call, Dial, Event}
@@ -9,6 +9,7 @@ use Rattle.erl_handshake.specs.declared.profile.Profile.{Profile}
 use Rattle.erl_handshake.specs.declared.setup.Setup.{Setup}
 use Rattle.erl_names.specs.declared.trunk.TrunkId.{TrunkId}
 use Rattle.erl_term.specs.declared.term.Pid.{Pid}
+use Rattle.run_traces.specs.Traces.{louder}
 use Rattle.script_session.specs.Stage.{Stage, play}
 use Rattle.script_terms.specs.Binding.{Look, with_name}
 use Rattle.script_terms.specs.declared.names.Named.TheVariants.{Process}
@@ -37,9 +38,9 @@ pair_plays =
     (λ word. Call first Command.Spawn) ∷ (λ word. Call second Command.Spawn)
     ∷ Dial first second ∷ Arrive trunk second ∷ Arrive trunk first ∷ Arrive trunk first ∷ Arrive trunk second ∷ Arrive trunk first ∷ []
 
--- from then on what is sent is printed
-abbrev pub pair_stage : ℕ → Stage
-pair_stage word = play pair_plays (record { world = opening pair_nodes; word = word; trace = true })
+-- from then on each item that is sent is printed
+abbrev pub pair_stage : Stage → Stage
+pair_stage it = play pair_plays (record it { world = opening pair_nodes; trace = louder it.trace })
 
 abbrev pub first_process : Name → Pid
 first_process node = record { node = node; creation = 1; id = 1; serial = 0 }

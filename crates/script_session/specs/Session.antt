@@ -5,8 +5,9 @@ use Rattle.std.specs.Option.{option_or}
 use Rattle.dist_model.specs.Dialing.{has_name}
 use Rattle.dist_model.specs.Names.{Name}
 use Rattle.dist_model.specs.Runs.{new_node, opening}
+use Rattle.dist_model.specs.Node.{Node, living}
 use Rattle.dist_model.specs.Seen.{end_between}
-use Rattle.dist_model.specs.World.{Call, Dial, Local, Start, Stop, Sweep, World}
+use Rattle.dist_model.specs.World.{Call, Dial, Local, Start, Stop, Sweep, World, node_of}
 use Rattle.dist_model.specs.declared.command.Command.{Command}
 use Rattle.dist_model.specs.declared.report.Answer.{Answer}
 use Rattle.erl_handshake.specs.declared.profile.Profile.{Profile}
@@ -18,9 +19,11 @@ use Rattle.script_lines.specs.Said.{Said}
 use Rattle.script_lines.specs.Said as says
 use Rattle.script_lines.specs.declared.reading.MayCome.{MayCome}
 use Rattle.script_lines.specs.declared.reason.Reason.{Reason}
-use Rattle.script_session.specs.Connections.{cuts, delivers, loses, routes}
+use Rattle.node_texts.specs.Monitors.{monitors_text}
+use Rattle.run_traces.specs.Breaks.{none_broken}
+use Rattle.run_traces.specs.declared.trace.Trace.{Trace}
+use Rattle.script_session.specs.Connections.{cuts, delivers, explains, loses, refuses, routes, travels}
 use Rattle.script_session.specs.Pairs.{pair_names, pair_stage}
-use Rattle.script_session.specs.Shown.{shown_world}
 use Rattle.script_session.specs.Stage.{Scene, Stage, happens}
 use Rattle.script_session.specs.Stage as stage
 use Rattle.script_session.specs.Turns.{settles}
@@ -30,6 +33,8 @@ use Rattle.script_terms.specs.Reading.{term_of}
 use Rattle.script_terms.specs.declared.fault.TermFault.{TermFault}
 use Rattle.script_texts.specs.Texts.{answer_text, ends_text}
 use Rattle.script_session.specs.Pairs.{setup_of}
+use Rattle.world_texts.specs.Shown.{shown_world, whole_world}
+use Rattle.erl_term.specs.declared.refusal.Refusal.{Refusal}
 
 pub record State : Type 0 where
   pub stage : Stage
@@ -40,8 +45,13 @@ pub record State : Type 0 where
   -- true once a command has come that no line for a node may follow
   pub started : Bool
 
-abbrev pub fresh_state : (trace : Bool) → (word : ℕ) → State
-fresh_state trace word = record { stage = record { world = opening []; word = word; trace = trace }; names = λ name. None; reply = []; started = false }
+abbrev pub fresh_state : Trace → (word : ℕ) → State
+fresh_state trace word = record {
+  stage = record { world = opening []; word = word; trace = trace; breaks = none_broken };
+  names = λ name. None;
+  reply = [];
+  started = false;
+}
 
 -- ---- the effect of a command on the stage, and its output
 
@@ -115,13 +125,25 @@ asks look said = option_or (asks_of_two look said) (option_or (asks_of_one look 
 
 -- a pair prints nothing
 abbrev pub pairs : Stage → Scene
-pairs it = record { stage = pair_stage it.word; text = []; made = Made.Pair }
+pairs it = record { stage = pair_stage it; text = []; made = Made.Pair }
 
 abbrev pub holds : (p q : Pid) → Stage → Scene
 holds p q it = stage.says (ends_text (end_between it.world p q) (end_between it.world q p)) it
 
-abbrev pub shows : Stage → Scene
-shows it = stage.says (shown_world it.world) it
+-- the monitors of a process, which has to be living at a node that is up
+abbrev pub monitored_at : Option Node → Pid → Stage → Scene
+monitored_at None p it = refuses Refusal.NothingThere it
+monitored_at (Some node) p it =
+    if not node.up then refuses Refusal.NodeDown it
+    else if living node p then stage.says (monitors_text node p) it
+    else refuses Refusal.NoSuchProcess it
+
+abbrev pub monitored : Pid → Stage → Scene
+monitored p it = monitored_at (node_of it.world.nodes p.node) p it
+
+abbrev pub shows : (all : Bool) → Stage → Scene
+shows false it = stage.says (shown_world it.world) it
+shows true it = stage.says (whole_world it.world) it
 
 abbrev pub moves : Said → Stage → Scene
 moves (says.Node name cookie profile) it = joins name cookie profile it
@@ -130,6 +152,9 @@ moves (says.Spawn node name) it = happens (Call node Command.Spawn) it
 moves (says.Ends p q) it = holds p q it
 moves (says.Dial node peer) it = happens (Dial node peer it.word) it
 moves (says.Route node peer) it = routes node peer it
+moves (says.Monitors process) it = monitored process it
+moves (says.Travels node peer) it = travels node peer it
+moves (says.Why node peer) it = explains node peer it
 moves (says.Lose node peer) it = loses node peer it
 moves (says.Cut node peer) it = cuts node peer it
 moves (says.Stop node) it = happens (Stop node) it
@@ -138,7 +163,7 @@ moves (says.Deliver node peer) it = delivers node peer it
 moves (says.Local node) it = happens (Local node) it
 moves (says.Sweep node) it = happens (Sweep node) it
 moves says.Settle it = settles 1000000 it
-moves says.Show it = shows it
+moves (says.Show all) it = shows all it
 moves _ it = stage.says [] it
 
 abbrev pub plays_as : Option (Name × Command) → Said → Stage → Scene

@@ -1,34 +1,28 @@
 -- The stage of a script: its world, and the text of an event there.
 -- (ERTS User's Guide, Distribution Protocol; Reference Manual, Processes; Distributed Erlang.)
-use Rattle.std.specs.Prelude.{Some, is_some, ℕ, ◌+◌, ◌%◌, ◌^◌, Bool, true, false, not, if◌then◌else◌, List, [], ◌∷◌, ◌++◌, map}
-use Rattle.std.specs.List.{flat_map}
+use Rattle.std.specs.Prelude.{is_some, ℕ, ◌+◌, ◌%◌, ◌^◌, Bool, true, false, not, if◌then◌else◌, List, [], ◌∷◌, ◌++◌}
 use Rattle.dist_model.specs.Names.{Name}
 use Rattle.dist_model.specs.Seen.{side_of_trunk}
 use Rattle.dist_model.specs.World.{Arrive, Dial, Event, Refused, Report, Reported, World, node_name, step}
-use Rattle.dist_model.specs.declared.report.Effect.{Effect}
-use Rattle.node_frames.specs.Frames.{Framed, shown}
 use Rattle.dist_model.specs.declared.report.Answer.{Answer}
+use Rattle.run_traces.specs.Breaks.{Breaks, breaks_with, source}
+use Rattle.run_traces.specs.Traces.{trace_text}
+use Rattle.run_traces.specs.declared.trace.Trace.{Trace}
 use Rattle.script_session.specs.declared.made.Made.{Made}
 use Rattle.script_session.specs.declared.made.Made.TheVariants.{Nothing, One}
 use Rattle.script_terms.specs.declared.names.Named.TheVariants.{Monitor, Process}
-use Rattle.script_texts.specs.Texts.{answer_text, refused_text, sent_text}
+use Rattle.script_texts.specs.Texts.{answer_text, refused_text}
 
 pub record Stage : Type 0 where
   pub world : World
   -- the next challenge
   pub word : ℕ
-  -- true if each frame that is sent is printed
-  pub trace : Bool
+  -- the form in which the items that are sent are printed
+  pub trace : Trace
+  -- the connections that have broken
+  pub breaks : Breaks
 
 -- ---- the printed text of an event
-
-abbrev pub sent_in : Name → Effect Framed → List ℕ
-sent_in node (Effect.Sent (Some trunk) peer frame) = sent_text node peer frame.bytes
-sent_in node _ = []
-
-abbrev pub sents : Bool → Name → Report → List ℕ
-sents true node (Reported answer effects) = flat_map (sent_in node) (map shown effects)
-sents trace node report = []
 
 abbrev pub came_text : Name → Report → List ℕ
 came_text node (Refused why) = refused_text why
@@ -51,6 +45,7 @@ after stage event = record {
   world = (step stage.world event).world;
   word = if takes_word stage.world event then next_word stage.word else stage.word;
   trace = stage.trace;
+  breaks = breaks_with (node_name event) (source stage.world event) (step stage.world event).report stage.breaks;
 }
 
 -- each event of a list, under the challenge that is next
@@ -74,13 +69,13 @@ made_by (Reported (Answer.Pid p) effects) = One (Process p)
 made_by (Reported (Answer.Reference r) effects) = One (Monitor r)
 made_by report = Nothing
 
-abbrev pub sents_of : Stage → Event → List ℕ
-sents_of stage event = sents stage.trace (node_name event) (step stage.world event).report
+abbrev pub trace_of : Stage → Event → List ℕ
+trace_of stage event = trace_text stage.trace (node_name event) (source stage.world event) (step stage.world event).report
 
--- one event: what it sent, and then what it came to
+-- one event: its trace, and then its outcome
 abbrev pub happens : Event → Stage → Scene
 happens event stage = record {
   stage = after stage event;
-  text = sents_of stage event ++ came_text (node_name event) (step stage.world event).report;
+  text = trace_of stage event ++ came_text (node_name event) (step stage.world event).report;
   made = made_by (step stage.world event).report;
 }

@@ -7,7 +7,8 @@ use Rattle.script_lines.specs.Lines.{line_says}
 use Rattle.script_lines.specs.Said.{Said}
 use Rattle.script_lines.specs.declared.reason.Reason.{Reason}
 use Rattle.script_session.specs.Session.{State, Step, is_taken, line_does, may_come}
-use Rattle.script_session.specs.Stage.{Scene, after, sents_of, Stage as TheStage}
+use Rattle.run_traces.specs.Breaks.{broken_by}
+use Rattle.script_session.specs.Stage.{Scene, after, trace_of, Stage as TheStage}
 use Rattle.script_session.specs.declared.made.Made.{Made}
 use Rattle.script_session.specs.declared.session.Session.{Session}
 use Rattle.script_session.specs.declared.session.Stop.{Stop}
@@ -17,11 +18,13 @@ use Rattle.script_terms.specs.Binding.{Knows}
 use Rattle.node_core.specs.Told.{Answered, Tells}
 use Rattle.world_core.specs.Stands.{IsReached, StandsFor}
 use Rattle.erl_handshake.specs.declared.setup.Setup.{Setup}
+use Rattle.erl_term.specs.declared.refusal.Refusal.{Refusal}
 
 pub record IsStage (stage : Stage) (it : TheStage) : Type 0 where
   pub world : StandsFor stage.world it.world
   pub word : stage.word ≡ it.word
   pub trace : stage.trace ≡ it.trace
+  pub breaks : broken_by stage.breaks ≡ it.breaks
 
 abbrev pub IsOpening : World → Type 0
 IsOpening world = (nodes : List (Name × Setup)) × (world ≡ opening nodes)
@@ -36,17 +39,30 @@ pub record IsSession (session : Session) (state : State) : Type 0 where
 
 -- ---- the result of an event
 
--- the frames that it sends were printed, and its outcome is told. The challenge isn't taken yet
+-- the outcome of an event, and not that memory was wanting
+abbrev pub IsKept : (came kept : Answered) → Type 0
+IsKept came kept = (kept ≡ came) × (kept ≡ Err Refusal.OutOfMemory → ⊥)
+
+-- it has happened in the world, and its outcome is told. Nothing is printed of it yet
+pub record Applied (event : Event) (it : TheStage) (new : Stage) (came : Answered) : Type 0 where
+  pub world : StandsFor new.world (step it.world event).world
+  pub word : new.word ≡ it.word
+  pub trace : new.trace ≡ it.trace
+  pub breaks : broken_by new.breaks ≡ it.breaks
+  pub tells : Tells came (step it.world event).report
+
+-- its trace is printed, and the connection that it breaks is noted. The challenge isn't taken yet
 pub record Moved (event : Event) (it : TheStage) (new : Stage) (old_text new_text : List ℕ) (came : Answered) : Type 0 where
   pub world : StandsFor new.world (step it.world event).world
   pub word : new.word ≡ it.word
   pub trace : new.trace ≡ it.trace
-  pub text : new_text ≡ old_text ++ sents_of it event
+  pub breaks : broken_by new.breaks ≡ (after it event).breaks
+  pub text : new_text ≡ old_text ++ trace_of it event
   pub tells : Tells came (step it.world event).report
 
 pub record Happened (event : Event) (it : TheStage) (new : Stage) (old_text new_text : List ℕ) (came : Answered) : Type 0 where
   pub stage : IsStage new (after it event)
-  pub text : new_text ≡ old_text ++ sents_of it event
+  pub text : new_text ≡ old_text ++ trace_of it event
   pub tells : Tells came (step it.world event).report
 
 -- ---- the results of a command and of a line

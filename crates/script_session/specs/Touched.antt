@@ -1,18 +1,13 @@
 -- The nodes that an event may give something to do, and the first nodes, at which nothing may happen.
-use Rattle.std.specs.Prelude.{◌≡◌, ◌||◌, None, Some, ℕ, Bool, false, List, ◌++◌, [], take}
+use Rattle.std.specs.Prelude.{◌≡◌, ◌||◌, None, Some, ℕ, Bool, false, List, ◌++◌, take}
 use Rattle.std.specs.List.{list_any}
 use Rattle.dist_model.specs.Names.{Name, same_name}
-use Rattle.dist_model.specs.Items.{Item}
-use Rattle.dist_model.specs.World.{Event, Refused, Report, Reported}
+use Rattle.dist_model.specs.World.{Event}
 use Rattle.dist_model.specs.declared.report.Effect.{Effect}
-use Rattle.script_session.specs.Stage.{Stage as TheStage, after, sents_of}
+use Rattle.script_session.specs.Stage.{Stage as TheStage, after, trace_of}
 use Rattle.script_session.specs.Stands.{IsStage}
 use Rattle.script_session.specs.Turns.{first_turn}
 use Rattle.script_session.specs.declared.stage.Stage.{Stage}
-
-abbrev pub effects_of : Report → List (Effect Item)
-effects_of (Refused why) = []
-effects_of (Reported answer effects) = effects
 
 -- sent on a connection to the node of this name
 abbrev pub is_sent_to : {A : Type 0} → Name → Effect A → Bool
@@ -30,5 +25,5 @@ AreIdle it count = first_turn it.world it.word (take count it.world.nodes) ≡ N
 -- an event has happened, and so many of the first nodes are idle then
 pub record Turned (event : Event) (it : TheStage) (new : Stage) (old_text new_text : List ℕ) (count : ℕ) : Type 0 where
   pub stage : IsStage new (after it event)
-  pub text : new_text ≡ old_text ++ sents_of it event
+  pub text : new_text ≡ old_text ++ trace_of it event
   pub idle : AreIdle (after it event) count

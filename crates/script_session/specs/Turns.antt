@@ -8,7 +8,7 @@ use Rattle.dist_model.specs.Node.{Node}
 use Rattle.dist_model.specs.Sides.{is_losing}
 use Rattle.dist_model.specs.World.{Arrive, Event, Local, Sweep, World, first_of}
 use Rattle.node_core.specs.declared.node_event.NodeEvent.{NodeEvent}
-use Rattle.script_session.specs.Stage.{Scene, Stage, after, says, sents_of}
+use Rattle.script_session.specs.Stage.{Scene, Stage, after, says, trace_of}
 use Rattle.script_session.specs.declared.turn.Turn.{Turn}
 use Rattle.script_texts.specs.Texts.{settled_text}
 use Rattle.world_core.specs.Coming.{next_arrival}
@@ -29,10 +29,10 @@ first_turn world word (node ∷ rest) = option_or (turn_at world word node) (fir
 abbrev pub turn : Stage → Option Event
 turn stage = first_turn stage.world stage.word stage.world.nodes
 
--- the frames of an event are printed before the text of the rest
+-- the trace of an event is printed before the text of the rest
 abbrev pub goes_on : Event → Stage → (Stage → Scene) → Scene
 goes_on event stage rest =
-    let scene = rest (after stage event) in record { stage = scene.stage; text = sents_of stage event ++ scene.text; made = scene.made }
+    let scene = rest (after stage event) in record { stage = scene.stage; text = trace_of stage event ++ scene.text; made = scene.made }
 
 abbrev pub takes_turn : Option Event → Stage → (Stage → Scene) → Scene
 takes_turn None stage rest = says (settled_text true) stage

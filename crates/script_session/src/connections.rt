@@ -5,7 +5,7 @@ ghost use Rattle.std.specs.Option.{option_map};
 ghost use Rattle.dist_model.specs.Node.{side_where};
 ghost use Rattle.node_core.specs.Model.{model_of};
 ghost use Rattle.node_tables.specs.Passing.{passes};
-ghost use Rattle.script_session.specs.Connections.{coming_to, cuts, delivers, in_order, is_any, live_sides, lose, lose_all, lose_on, loses, routes};
+ghost use Rattle.script_session.specs.Connections.{coming_to, cuts, delivers, explains, in_order, is_any, live_sides, lose, lose_all, lose_on, loses, routes, travels};
 ghost use Rattle.script_session.specs.Stage.{Stage as TheStage};
 ghost use Rattle.script_session.specs.Stands.{IsStage, Plays};
 ghost use Rattle.script_session.specs.declared.made.Made.{Made as TheMade};
@@ -17,10 +17,12 @@ use crate::stage::Stage;
 use erl_names::{NodeName, TrunkId};
 use erl_term::{Atom, Refusal};
 use node_tables::Which;
+use run_traces::put_why;
 use script_texts::{put_done, put_refused, put_route};
 use std::alloc::{AllocError, Global};
 use std::cmp::Ordering;
 use world_core::{Node, NodeEvent};
+use world_texts::put_travels;
 
 /// The connection of a node to a peer, and its attempts at one: at most three, in the order of their
 /// names. None stands behind those that there are.
@@ -164,6 +166,49 @@ impl Stage {
             None => put_refused(out, Refusal::NothingThere),
             Some(here) if !here.is_up() => put_refused(out, Refusal::NodeDown),
             Some(here) => put_route(out, here.route(peer.atom())),
+        }
+    }
+
+    /// Prints the items in flight to a node from a peer, the next to come first.
+    ///
+    /// # Errors
+    /// [`AllocError`] if out of memory.
+    pub(crate) fn travels(
+        &self,
+        alloc: Global,
+        node: &str,
+        peer: &str,
+        out: &mut String,
+    ) -> Result<(), AllocError>
+        ensures { (it : TheStage) → IsStage self.now it →
+            OnOk result (Plays (travels node.now peer.now it) self.now (string_bytes out.old) (string_bytes out.new) TheMade.Nothing) }
+    {
+        let (node, peer) = (node_name(alloc, node)?, node_name(alloc, peer)?);
+        match self.world.node(node.atom()) {
+            None => put_refused(out, Refusal::NothingThere),
+            Some(here) if !here.is_up() => put_refused(out, Refusal::NodeDown),
+            Some(here) => put_travels(alloc, out, &self.world, here, peer.atom()),
+        }
+    }
+
+    /// Prints the fault by which the last connection of a node to a peer broke, or `none`.
+    ///
+    /// # Errors
+    /// [`AllocError`] if out of memory.
+    pub(crate) fn explain(
+        &self,
+        alloc: Global,
+        node: &str,
+        peer: &str,
+        out: &mut String,
+    ) -> Result<(), AllocError>
+        ensures { (it : TheStage) → IsStage self.now it →
+            OnOk result (Plays (explains node.now peer.now it) self.now (string_bytes out.old) (string_bytes out.new) TheMade.Nothing) }
+    {
+        let (node, peer) = (node_name(alloc, node)?, node_name(alloc, peer)?);
+        match self.world.node(node.atom()) {
+            None => put_refused(out, Refusal::NothingThere),
+            Some(_) => put_why(out, self.breaks.last(node.atom(), peer.atom())),
         }
     }
 

@@ -123,15 +123,15 @@ impl Stage {
     /// # Errors
     /// Where memory is wanting.
     pub(crate) fn pair(&mut self, alloc: Global) -> Result<(), AllocError>
-        ensures { (it : TheStage) → IsStage self.old it → OnOk result (IsStage self.new (pair_stage it.word)) }
+        ensures { (it : TheStage) → IsStage self.old it → OnOk result (IsStage self.new (pair_stage it)) }
     {
         let first = node_name(alloc, FIRST)?;
         let second = node_name(alloc, SECOND)?;
         let peer = node_name(alloc, SECOND)?;
         self.world = pair_world(alloc)?;
-        self.trace = true;
-        self.telling.picture.join(alloc, FIRST)?;
-        self.telling.picture.join(alloc, SECOND)?;
+        self.trace = self.trace.louder();
+        self.telling.join(alloc, FIRST, COOKIE, Profile::Three)?;
+        self.telling.join(alloc, SECOND, COOKIE, Profile::Three)?;
         self.spawn(alloc, &first)?;
         self.spawn(alloc, &second)?;
         self.dial(alloc, &first, peer)?;

@@ -4,7 +4,7 @@ ghost use Rattle.dist_model.specs.Dialing.{has_name};
 ghost use Rattle.dist_model.specs.World.{Dial};
 ghost use Rattle.dist_model.specs.declared.command.Command.{Command as TheCommand};
 ghost use Rattle.script_lines.specs.Said.{said};
-ghost use Rattle.script_session.specs.Session.{asks, asks_of_names, asks_of_one, asks_of_two, holds, is_taken, joins, moves, new_name, plays, read, read_atom, shows, starts};
+ghost use Rattle.script_session.specs.Session.{asks, asks_of_names, asks_of_one, asks_of_two, holds, is_taken, joins, monitored, moves, new_name, plays, read, read_atom, shows, starts};
 ghost use Rattle.script_session.specs.Stage.{Stage as TheStage, happens};
 ghost use Rattle.script_session.specs.Stands.{IsOpening, IsStage, Plays};
 ghost use Rattle.script_session.specs.declared.made.Made.{Made as TheMade};
@@ -14,16 +14,17 @@ ghost use Rattle.node_core.specs.NodeEvents.{event_at};
 
 use crate::made::Made;
 use crate::pairs::{node_name, setup};
-use crate::showing::put_world;
 use crate::stage::Stage;
 use dist_model::{Answer, Command};
 use erl_handshake::Profile;
-use erl_term::{Atom, Payload, Pid, Term};
+use erl_term::{Atom, Payload, Pid, Refusal, Term};
+use node_texts::put_monitors;
 use script_lines::Line;
 use script_terms::{Names, read_term};
-use script_texts::{put_answer, put_ends};
+use script_texts::{put_answer, put_ends, put_refused};
 use std::alloc::{AllocError, Global};
 use world_core::NodeEvent;
+use world_texts::{put_whole_world, put_world};
 
 // Returns the term of a line, which is known to be one.
 fn term(alloc: Global, names: &Names, text: &str) -> Result<Payload, AllocError>
@@ -142,7 +143,7 @@ impl Stage {
     {
         let setup = setup(alloc, secret, profile)?;
         self.world.join(alloc, node_name(alloc, name)?, setup)?;
-        self.telling.picture.join(alloc, name)?;
+        self.telling.join(alloc, name, secret, profile)?;
         put_answer(out, name, &Answer::Started(1))
     }
 
@@ -155,12 +156,30 @@ impl Stage {
         put_ends(out, of_first, of_second)
     }
 
-    // Prints all nodes and processes.
-    fn show(&self, out: &mut String) -> Result<(), AllocError>
+    // Prints the monitors of a process.
+    fn monitors(&self, process: &Pid, out: &mut String) -> Result<(), AllocError>
         ensures { (it : TheStage) → IsStage self.now it →
-            OnOk result (Plays (shows it) self.now (string_bytes out.old) (string_bytes out.new) TheMade.Nothing) }
+            OnOk result (Plays (monitored process.now it) self.now (string_bytes out.old) (string_bytes out.new) TheMade.Nothing) }
     {
-        put_world(out, &self.world)
+        match self.world.node(&process.node) {
+            None => put_refused(out, Refusal::NothingThere),
+            Some(node) if !node.is_up() => put_refused(out, Refusal::NodeDown),
+            Some(node) if !node.is_living(process) => put_refused(out, Refusal::NoSuchProcess),
+            Some(node) => put_monitors(out, node, process),
+        }
+    }
+
+    // Prints all nodes and processes. With `all`, prints their links, monitors and connections, and the items
+    // in flight too.
+    fn show(&self, alloc: Global, all: bool, out: &mut String) -> Result<(), AllocError>
+        ensures { (it : TheStage) → IsStage self.now it →
+            OnOk result (Plays (shows all it) self.now (string_bytes out.old) (string_bytes out.new) TheMade.Nothing) }
+    {
+        if all {
+            put_whole_world(alloc, out, &self.world)
+        } else {
+            put_world(out, &self.world)
+        }
     }
 }
 
@@ -390,6 +409,13 @@ impl Stage {
             Line::Route { node, peer } => self
                 .route(alloc, node, peer, out)
                 .map(|()| Made::Nothing),
+            Line::Monitors { process } => self.monitors(process, out).map(|()| Made::Nothing),
+            Line::Travels { node, peer } => self
+                .travels(alloc, node, peer, out)
+                .map(|()| Made::Nothing),
+            Line::Why { node, peer } => self
+                .explain(alloc, node, peer, out)
+                .map(|()| Made::Nothing),
             Line::Lose { node, peer } => self.lose(alloc, node, peer, out).map(|()| Made::Nothing),
             Line::Cut { node, peer } => self.cut(alloc, node, peer, out).map(|()| Made::Nothing),
             Line::Stop { node } => self.at(alloc, node, NodeEvent::Stop, out),
@@ -398,7 +424,7 @@ impl Stage {
             Line::Local { node } => self.at(alloc, node, NodeEvent::Local, out),
             Line::Sweep { node } => self.at(alloc, node, NodeEvent::Sweep, out),
             Line::Settle => self.settle(alloc, out).map(|()| Made::Nothing),
-            Line::Show => self.show(out).map(|()| Made::Nothing),
+            Line::Show { all } => self.show(alloc, all, out).map(|()| Made::Nothing),
             // `play` carries these out at their node, and leaves nothing to do here
             Line::Send { .. } => Ok(Made::Nothing),
             Line::Link { .. } => Ok(Made::Nothing),

@@ -1,5 +1,5 @@
 //! The session of a script.
-ghost use Rattle.std.specs.Prelude.{◌≡◌, [], true, false, None, IfOk, OnOk, string_bytes};
+ghost use Rattle.std.specs.Prelude.{◌≡◌, ◌+◌, ◌-◌, ◌<◌, ◌^◌, [], true, false, None, IfOk, OnOk, drop, string_bytes};
 ghost use Rattle.script_lines.specs.Replies.{is_met, reply_after};
 ghost use Rattle.script_lines.specs.Said.{said};
 ghost use Rattle.script_session.specs.Session.{State, binds, fresh_state, is_taken, may_come, new_name, plays, starts};
@@ -15,6 +15,7 @@ use crate::playing::{is_taken, new_name, starts};
 use crate::stage::Stage;
 use crate::telling::Telling;
 use diagram::Diagram;
+use run_traces::{Breaks, Trace};
 use script_lines::{Line, MayCome, Reason, Reply, expected, put_advice, read_line};
 use script_terms::{Named, Names};
 use std::alloc::{AllocError, Global};
@@ -39,6 +40,16 @@ pub struct Session {
     names: Names,
     reply: Reply,
     started: bool,
+}
+
+// Returns the bytes behind the first so many, none if there are fewer.
+fn bytes_behind(bytes: &[u8], count: usize) -> &[u8]
+    ensures { result.now ≡ drop count bytes.now }
+{
+    match bytes.get(count..) {
+        Some(behind) => behind,
+        None => &[],
+    }
 }
 
 // Carries out a line's command, and returns the thing that it makes with the name that the line gives to it.
@@ -101,9 +112,9 @@ pub fn compare(alloc: Global, reply: &Reply, names: &Names, words: &str) -> Resu
 }
 
 impl Session {
-    /// Creates a session before its first line. With `trace` each frame that is sent is printed. The first
-    /// challenge of a handshake is the seed, and each next one is greater by 1. Never allocates.
-    pub fn new(alloc: Global, trace: bool, seed: u32) -> Session
+    /// Creates a session before its first line, which prints the items that are sent in the form of `trace`.
+    /// The first challenge of a handshake is the seed, and each next one is greater by 1. Never allocates.
+    pub fn new(alloc: Global, trace: Trace, seed: u32) -> Session
         ensures { IsSession result (fresh_state trace seed) }
     {
         Session {
@@ -111,6 +122,7 @@ impl Session {
                 world: World::empty(alloc),
                 word: seed,
                 trace,
+                breaks: Breaks::new(alloc),
                 telling: Telling::off(alloc),
             },
             names: Names::new(alloc),
@@ -136,7 +148,7 @@ impl Session {
         alloc: Global,
         named: (String, Made),
         has_started: bool,
-        printed: &str,
+        printed: &[u8],
     ) -> Result<(), AllocError>
         ensures names { (look : Look) → Knows self.old.names look → OnOk result (Knows self.new.names (binds (string_bytes named.0) named.1 look)) }
         ensures reply { OnOk result (self.new.reply.line.items ≡ reply_after printed.now self.old.reply.line.items) }
@@ -145,7 +157,7 @@ impl Session {
     {
         let (name, made) = named;
         bind(alloc, &mut self.names, name, made)?;
-        self.reply.follow(printed.as_bytes())?;
+        self.reply.follow(printed)?;
         self.started = has_started;
         Ok(())
     }
@@ -172,20 +184,27 @@ impl Session {
         }
         let has_started = starts(line);
         let (stage, names) = (&mut self.stage, &self.names);
-        let mut printed = String::new(alloc);
-        let Ok(named) = carry_out(alloc, stage, names, text, line, &mut printed) else {
+        let before = out.as_bytes().len();
+        let Ok(named) = carry_out(alloc, stage, names, text, line, out) else {
             return Err(Stop::OutOfMemory);
         };
-        let Ok(()) = self.keep(alloc, named, has_started, printed.as_str()) else {
-            return Err(Stop::OutOfMemory);
-        };
-        let Ok(()) = out.push_str(printed.as_str()) else {
+        let printed = bytes_behind(out.as_bytes(), before);
+        let Ok(()) = self.keep(alloc, named, has_started, printed) else {
             return Err(Stop::OutOfMemory);
         };
         Ok(())
     }
 
-    /// Lets each later event be told in a line of JSON.
+    /// Counts the line that comes next, by whose number the events that it brings about are told.
+    pub fn count_line(&mut self)
+        ensures state { (state : State) → IsSession self.old state → IsSession self.new state }
+        ensures counted { self.old.stage.telling.line < 2 ^ 64 - 1 → self.new.stage.telling.line ≡ self.old.stage.telling.line + 1 }
+        ensures events { string_bytes self.new.stage.telling.lines ≡ string_bytes self.old.stage.telling.lines }
+    {
+        self.stage.telling.line = self.stage.telling.line.saturating_add(1);
+    }
+
+    /// Lets each later event, and each node that comes into the world, be told in a line of JSON.
     pub fn tell_events(&mut self)
         ensures state { (state : State) → IsSession self.old state → IsSession self.new state }
         ensures told { self.new.stage.telling.is_on ≡ true }

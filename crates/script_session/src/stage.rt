@@ -1,83 +1,32 @@
 //! The stage of a script: its world, and the text that is printed of an event there.
-ghost use Rattle.std.specs.Prelude.{◌≡◌, ◌++◌, [], ℕ, IfOk, OnOk, string_bytes, if◌then◌else◌};
-ghost use Rattle.std.specs.List.{flat_map};
+ghost use Rattle.std.specs.Prelude.{◌≡◌, ◌++◌, ℕ, IfOk, OnOk, string_bytes, if◌then◌else◌};
+ghost use Rattle.std.specs.Option.{option_copied};
 ghost use Rattle.dist_model.specs.World.{Arrive, Report as TheReport};
-ghost use Rattle.script_session.specs.Stage.{Stage as TheStage, after, came_text, happens, next_word, sent_in, takes_word};
-ghost use Rattle.script_session.specs.Stands.{Happened, IsStage, Moved, Plays};
+ghost use Rattle.run_traces.specs.Breaks.{source};
+ghost use Rattle.script_session.specs.Stage.{Stage as TheStage, after, came_text, happens, next_word, takes_word};
+ghost use Rattle.script_session.specs.Stands.{Applied, Happened, IsKept, IsStage, Moved, Plays};
 ghost use Rattle.node_core.specs.Told.{Tells};
 ghost use Rattle.node_core.specs.NodeEvents.{event_at};
+ghost use Rattle.node_core.specs.declared.node_event.NodeEvent.{NodeEvent as TheEvent};
 
 use crate::made::{Made, made_by};
 use crate::telling::Telling;
-use dist_model::Effect;
 use erl_names::TrunkId;
 use erl_term::{Atom, Refusal};
-use script_texts::{put_answer, put_refused, put_sent};
+use run_traces::{Breaks, Trace, put_trace, source_of};
+use script_texts::{put_answer, put_refused};
 use std::alloc::{AllocError, Global};
-use world_core::{Answered, Frame, NodeEvent, World};
+use world_core::{Answered, NodeEvent, World};
 
-/// The world of a script, the next challenge, the flag to print each frame that is sent, and the telling of
-/// the events.
+/// The world of a script, the next challenge, the form in which the items that are sent are printed, the
+/// connections that have broken, and the telling of the events.
 #[derive(Drop)]
 pub(crate) struct Stage {
     pub(crate) world: World,
     pub(crate) word: u32,
-    pub(crate) trace: bool,
+    pub(crate) trace: Trace,
+    pub(crate) breaks: Breaks,
     pub(crate) telling: Telling,
-}
-
-// Prints the item that an effect sends on a connection, if it sends one.
-fn put_sent_in(
-    alloc: Global,
-    out: &mut String,
-    node: &str,
-    effect: &Effect<Frame>,
-) -> Result<(), AllocError>
-    ensures { OnOk result (string_bytes out.new ≡ string_bytes out.old ++ sent_in node.now effect.now) }
-{
-    match effect {
-        Effect::Sent {
-            trunk: Some(_),
-            peer,
-            item,
-        } => put_sent(alloc, out, node, peer.text(), item.as_slice()),
-        _ => Ok(()),
-    }
-}
-
-/// Prints the items that an event sends, of a node of this name: a line for each item.
-///
-/// # Errors
-/// Where memory is wanting.
-pub fn put_sents(
-    alloc: Global,
-    out: &mut String,
-    node: &str,
-    effects: &[Effect<Frame>],
-) -> Result<(), AllocError>
-    ensures { OnOk result (string_bytes out.new ≡ string_bytes out.old ++ flat_map (sent_in node.now) effects.now) }
-{
-    for effect in effects {
-        put_sent_in(alloc, out, node, effect)?;
-    }
-    Ok(())
-}
-
-// Prints the same, if it is to be printed.
-fn put_sents_if(
-    alloc: Global,
-    out: &mut String,
-    trace: bool,
-    node: &str,
-    effects: &[Effect<Frame>],
-) -> Result<(), AllocError>
-    ensures { OnOk result (string_bytes out.new ≡ string_bytes out.old ++ (if trace then flat_map (sent_in node.now) effects.now else [])) }
-{
-    if trace {
-        put_sents(alloc, out, node, effects)
-    } else {
-        Ok(())
-    }
 }
 
 // Returns the challenge behind this one if this one is taken, or else this one.
@@ -85,6 +34,17 @@ fn drawn(word: u32, is_taken: bool) -> u32
     ensures { result ≡ (if is_taken then next_word word else word) }
 {
     if is_taken { word.wrapping_add(1) } else { word }
+}
+
+// Returns the outcome of an event, unless memory was wanting.
+fn kept(came: Answered) -> Result<Answered, AllocError>
+    ensures { IfOk result (IsKept came) }
+{
+    match came {
+        Err(why) if why == Refusal::OutOfMemory => Err(AllocError),
+        Err(why) => Ok(Err(why)),
+        Ok(report) => Ok(Ok(report)),
+    }
 }
 
 // Prints the outcome of an event.
@@ -119,8 +79,81 @@ impl Stage {
         }
     }
 
+    // Applies an event at the node of a name, and tells it, if events are to be told. Prints nothing.
+    fn apply(
+        &mut self,
+        alloc: Global,
+        node: &Atom,
+        event: NodeEvent,
+    ) -> Result<Answered, AllocError>
+        ensures { (it : TheStage) → IsStage self.old it → IfOk result (Applied (event_at node.now event) it self.new) }
+    {
+        let begun = self.telling.begin(alloc, &event)?;
+        let came = self.world.apply_at(alloc, node, event);
+        self.telling.end(alloc, node.text(), begun, &came)?;
+        kept(came)
+    }
+
+    // Prints the trace of an event that has happened, and notes the connection that it broke. `peer` is the
+    // node from which an item came in it.
+    fn tell(
+        &mut self,
+        alloc: Global,
+        node: &Atom,
+        peer: Option<&Atom>,
+        came: &Answered,
+        out: &mut String,
+    ) -> Result<(), AllocError>
+        ensures { (it : TheStage) (event : TheEvent) → Applied (event_at node.now event) it self.old came.now →
+            option_copied peer.entry ≡ source it.world (event_at node.now event) →
+            OnOk result (Moved (event_at node.now event) it self.new (string_bytes out.old) (string_bytes out.new) came.now) }
+    {
+        put_trace(alloc, out, self.trace, node.text(), peer, came)?;
+        self.breaks.follow(node, peer, came)
+    }
+
+    // Does so, and returns the outcome.
+    fn told(
+        &mut self,
+        alloc: Global,
+        node: &Atom,
+        peer: Option<&Atom>,
+        came: Answered,
+        out: &mut String,
+    ) -> Result<Answered, AllocError>
+        ensures { (it : TheStage) (event : TheEvent) → Applied (event_at node.now event) it self.old came →
+            option_copied peer.entry ≡ source it.world (event_at node.now event) →
+            IfOk result (Moved (event_at node.now event) it self.new (string_bytes out.old) (string_bytes out.new)) }
+    {
+        match self.tell(alloc, node, peer, &came, out) {
+            Ok(()) => Ok(came),
+            Err(e) => {
+                drop(came);
+                Err(e)
+            }
+        }
+    }
+
+    // Applies an event in which an item comes from this peer, if one does, and prints its trace.
+    fn step_from(
+        &mut self,
+        alloc: Global,
+        node: &Atom,
+        peer: Option<&Atom>,
+        event: NodeEvent,
+        out: &mut String,
+    ) -> Result<Answered, AllocError>
+        ensures { (it : TheStage) → IsStage self.old it → option_copied peer.entry ≡ source it.world (event_at node.now event) →
+            IfOk result (Moved (event_at node.now event) it self.new (string_bytes out.old) (string_bytes out.new)) }
+    {
+        match self.apply(alloc, node, event) {
+            Ok(came) => self.told(alloc, node, peer, came, out),
+            Err(e) => Err(e),
+        }
+    }
+
     // Applies an event at the node of a name, under the next challenge, and tells it, if events are to be
-    // told. Prints the frames that it sends, if frames are to be printed.
+    // told. Prints its trace.
     fn step(
         &mut self,
         alloc: Global,
@@ -131,24 +164,23 @@ impl Stage {
         ensures { (it : TheStage) → IsStage self.old it →
             IfOk result (Moved (event_at node.now event) it self.new (string_bytes out.old) (string_bytes out.new)) }
     {
-        let begun = self.telling.begin(alloc, &event)?;
-        let came = self.world.apply_at(alloc, node, event);
-        self.telling.end(alloc, node.text(), begun, &came)?;
-        match came {
-            Ok(report) => {
-                put_sents_if(alloc, out, self.trace, node.text(), &report.effects)?;
-                Ok(Ok(report))
+        match source_of(&self.world, node, &event) {
+            Ok(peer) => {
+                let came = self.step_from(alloc, node, peer.as_ref(), event, out);
+                drop(peer);
+                came
             }
-            Err(why) if why == Refusal::OutOfMemory => Err(AllocError),
-            Err(why) => Ok(Err(why)),
+            Err(e) => {
+                drop(event);
+                Err(e)
+            }
         }
     }
 
-    /// Applies an event at the node of a name, and prints the frames that it sends, if frames are to be
-    /// printed.
+    /// Applies an event at the node of a name, and prints its trace.
     ///
     /// # Errors
-    /// Where memory is wanting.
+    /// [`AllocError`] if out of memory.
     pub(crate) fn happen(
         &mut self,
         alloc: Global,
@@ -168,7 +200,7 @@ impl Stage {
     /// Applies an event at the node of a name. Prints nothing.
     ///
     /// # Errors
-    /// Where memory is wanting.
+    /// [`AllocError`] if out of memory.
     pub(crate) fn pass(
         &mut self,
         alloc: Global,
@@ -185,7 +217,7 @@ impl Stage {
     /// Applies an event at the node of a name, and prints all of it.
     ///
     /// # Errors
-    /// Where memory is wanting.
+    /// [`AllocError`] if out of memory.
     pub(crate) fn act(
         &mut self,
         alloc: Global,

@@ -1,14 +1,15 @@
 //! The telling of events: lines for machines, and a picture.
 ghost use Rattle.std.specs.Prelude.{◌≡◌, ◌++◌, [], true, false, IfOk, OnOk, codes, string_bytes};
-ghost use Rattle.script_json.specs.Reports.{line_text};
+ghost use Rattle.script_json.specs.Reports.{line_text, node_text};
 ghost use Rattle.script_session.specs.Telling.{IsTold};
 ghost use Rattle.node_core.specs.declared.node_event.NodeEvent.{NodeEvent as TheEvent};
 
 use crate::picture::Picture;
 use dist_model::Report;
+use erl_handshake::Profile;
 use erl_names::TrunkId;
 use erl_term::Refusal;
-use script_json::{event, put_line};
+use script_json::{event, put_line, put_node};
 use serde_json::Value;
 use std::alloc::{AllocError, Global};
 use world_core::{Frame, NodeEvent};
@@ -19,6 +20,8 @@ use world_core::{Frame, NodeEvent};
 pub(crate) struct Telling {
     pub(crate) lines: String,
     pub(crate) is_on: bool,
+    /// The number of the script's line, from 1.
+    pub(crate) line: u64,
     pub(crate) picture: Picture,
 }
 
@@ -49,7 +52,32 @@ impl Telling {
         Telling {
             lines: String::new(alloc),
             is_on: false,
+            line: 0,
             picture: Picture::off(),
+        }
+    }
+
+    /// Tells of a node that comes into the world: appends its line, and adds it to the picture.
+    ///
+    /// # Errors
+    /// [`AllocError`] if out of memory.
+    pub(crate) fn join(
+        &mut self,
+        alloc: Global,
+        node: &str,
+        cookie: &str,
+        profile: Profile,
+    ) -> Result<(), AllocError>
+        ensures on { self.old.is_on ≡ true →
+            OnOk result (string_bytes self.new.lines ≡ string_bytes self.old.lines ++ node_text node.now self.old.line cookie.now profile ++ codes "\n") }
+        ensures off { self.old.is_on ≡ false → string_bytes self.new.lines ≡ string_bytes self.old.lines }
+        ensures same { self.new.is_on ≡ self.old.is_on }
+    {
+        self.picture.join(alloc, node)?;
+        if self.is_on {
+            put_node(alloc, &mut self.lines, node, self.line, cookie, profile)
+        } else {
+            Ok(())
         }
     }
 
@@ -75,7 +103,7 @@ impl Telling {
         came: &Result<Report<Frame>, Refusal>,
     ) -> Result<(), AllocError>
         ensures on { (happened : TheEvent) → IsTold true happened begun.event →
-            OnOk result (string_bytes self.new.lines ≡ string_bytes self.old.lines ++ line_text node.now happened came.now ++ codes "\n") }
+            OnOk result (string_bytes self.new.lines ≡ string_bytes self.old.lines ++ line_text node.now self.old.line happened came.now ++ codes "\n") }
         ensures off { (happened : TheEvent) → IsTold false happened begun.event → OnOk result (string_bytes self.new.lines ≡ string_bytes self.old.lines) }
         ensures same { self.new.is_on ≡ self.old.is_on }
     {
@@ -86,7 +114,7 @@ impl Telling {
         let Begun { event, trunk } = begun;
         self.picture.happened(alloc, node, trunk.as_ref(), came)?;
         match event {
-            Some(event) => put_line(alloc, &mut self.lines, node, event, came),
+            Some(event) => put_line(alloc, &mut self.lines, node, self.line, event, came),
             None => Ok(()),
         }
     }

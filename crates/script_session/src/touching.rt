@@ -3,7 +3,8 @@ ghost use Rattle.std.specs.Prelude.{◌≡◌, ◌≤◌, length, map, position}
 ghost use Rattle.std.specs.List.{list_any, position_or_len};
 ghost use Rattle.dist_model.specs.World.{Report as TheReport};
 ghost use Rattle.node_frames.specs.Frames.{shown};
-ghost use Rattle.script_session.specs.Touched.{effects_of, is_sent_to, is_touched};
+ghost use Rattle.run_traces.specs.Traces.{effects_of};
+ghost use Rattle.script_session.specs.Touched.{is_sent_to, is_touched};
 ghost use Rattle.world_core.specs.Names.{name_of, names_of};
 ghost use Rattle.node_core.specs.Told.{Tells};
 

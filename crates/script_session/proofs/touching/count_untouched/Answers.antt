@@ -2,7 +2,8 @@ use Rattle.std.proofs.Common.{◌∙◌, ap, length, unwrap_or}
 use Rattle.std.specs.List.{position_or_len}
 use Rattle.script_session.proofs.Untouched.{count_same, counted}
 use Rattle.script_session.proofs.touching.count_untouched.Goals as goal
-use Rattle.script_session.specs.Touched.{effects_of, is_touched}
+use Rattle.run_traces.specs.Traces.{effects_of}
+use Rattle.script_session.specs.Touched.{is_touched}
 use Rattle.world_core.specs.Names.{names_of}
 
 pub returns-clause-exact : goal.returns-clause-exact

@@ -1,12 +1,12 @@
-use Rattle.std.proofs.Common.{◌≡◌, ℕ, List, [], ◌++◌, Ok, Some, None, Option, ap, string_bytes, subst, sym, ◌∙◌}
+use Rattle.std.proofs.Common.{◌≡◌, ℕ, List, Ok, Some, None, Option, ap, drop, length, rules, string_bytes, subst, sym, ◌∙◌}
 use Rattle.std.specs.Option.{option_copied}
-use Rattle.script_lines.specs.Replies.{expected, is_met, reply_after}
+use Rattle.script_lines.specs.Replies.{expected, is_met}
 use Rattle.script_lines.specs.Said.{said}
 use Rattle.script_lines.specs.declared.line.Line.{Line}
-use Rattle.script_session.specs.Session.{does, is_taken, line_does, plays}
-use Rattle.script_session.specs.Stands.{Compares, Plays, Steps}
+use Rattle.script_session.specs.Session.{is_taken, line_does, plays}
+use Rattle.script_session.specs.Stands.{Compares, Plays}
 use Rattle.script_session.specs.declared.stage.Stage.{Stage}
-use Rattle.script_session.proofs.LineOutcomes.{behind, compared, early, passed, ran, reads, runs}
+use Rattle.script_session.proofs.LineOutcomes.{compared, early, passed, ran, reads, runs}
 use Rattle.script_session.proofs.session.Session.line.Goals as goal
 
 pub returns-in-Ok-None : goal.returns-in-Ok-None
@@ -32,7 +32,7 @@ returns c = λ state h.
     let it = said c.in-Ok-Some.line in
     let line = c.args.line.now in
     let out = string_bytes c.args.out.now in
-    let printed = string_bytes c.carry_out.new.out in
+    let text = string_bytes c.carry_out.new.out in
     let new = c.keep.new.self in
     let made = c.in-Ok.named.1 in
     let says =
@@ -43,18 +43,11 @@ returns c = λ state h.
     let free = ap (is_taken it) h.stage.world.names ∙ sym c.is_taken.ensures ∙ c.if-is_taken.false in
     let opens = early c.args.self.now state line it h says in
     let scene = plays state.names it state.stage in
-    let played : Plays scene c.carry_out.new.stage [] printed made =
-    subst (λ (t : List ℕ). Plays scene c.carry_out.new.stage t printed made) c.new-printed.ensures.bytes
-    (c.in-Ok.ensures.played state.stage state.names h.stage h.names opens) in
-    let staged : Plays scene new.stage [] printed made =
-    subst (λ (s : Stage). Plays scene s [] printed made) (sym c.in-Ok-keep.ensures.stage) played in
-    let replied : new.reply.line.items ≡ reply_after printed c.args.self.now.reply.line.items =
-    c.in-Ok-keep.ensures.reply ∙ ap (λ (t : List ℕ). reply_after t c.args.self.now.reply.line.items) c.as_str.ensures.value in
-    let steps =
-    ran c.args.self.now new state it (string_bytes c.in-Ok.named.0) made printed h opens staged
-    c.in-Ok.ensures.name (c.in-Ok-keep.ensures.names state.names h.names) replied
-    (c.in-Ok-keep.ensures.started ∙ c.starts-has_started.ensures) in
-    let whole : string_bytes c.push_str.new.self ≡ out ++ printed =
-    c.in-Ok-push_str.ensures.bytes ∙ ap (λ (t : List ℕ). out ++ t) c.as_str-2.ensures.value in
-    subst (λ (t : List ℕ). Steps (line_does state line) new out t) (sym whole)
-    (behind (Ok (does it state)) new out printed (line_does state line) (runs state line it says none free) steps)
+    let played : Plays scene c.carry_out.new.stage out text made =
+    c.in-Ok.ensures.played state.stage state.names h.stage h.names opens in
+    let staged : Plays scene new.stage out text made =
+    subst (λ (s : Stage). Plays scene s out text made) (sym c.in-Ok-keep.ensures.stage) played in
+    let behind : c.bytes_behind-printed.result.now ≡ drop (length out) text = search rules in
+    ran c.args.self.now new state it (string_bytes c.in-Ok.named.0) made out text c.bytes_behind-printed.result.now h opens staged
+    c.in-Ok.ensures.name (c.in-Ok-keep.ensures.names state.names h.names) behind c.in-Ok-keep.ensures.reply
+    (c.in-Ok-keep.ensures.started ∙ c.starts-has_started.ensures) (line_does state line) (runs state line it says none free)

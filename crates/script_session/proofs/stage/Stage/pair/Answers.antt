@@ -1,9 +1,10 @@
-use Rattle.std.proofs.Common.{ℕ, List, [], ◌∷◌, true, refl, subst}
+use Rattle.std.proofs.Common.{ℕ, List, [], ◌∷◌, ◌∙◌, ap, subst}
 use Rattle.dist_model.specs.Names.{Name}
 use Rattle.dist_model.specs.Runs.{opening}
 use Rattle.dist_model.specs.World.{Arrive, Call, Dial, Event}
 use Rattle.dist_model.specs.declared.command.Command.{Command}
 use Rattle.script_session.specs.Pairs.{first, pair_nodes, pair_plays, second, trunk}
+use Rattle.run_traces.specs.Traces.{louder}
 use Rattle.script_session.specs.Stage.{Stage as TheStage, after}
 use Rattle.script_session.specs.Stands.{IsStage}
 use Rattle.script_session.proofs.PairStages.{begins, ends, goes_on}
@@ -11,7 +12,7 @@ use Rattle.script_session.proofs.stage.Stage.pair.Goals as goal
 
 pub returns : goal.returns
 returns c = λ it h.
-    let from : TheStage = record { world = opening pair_nodes; word = it.word; trace = true } in
+    let from : TheStage = record it { world = opening pair_nodes; trace = louder it.trace } in
     let a = c.in_ok-first.ensures in
     let b = c.in_ok-second.ensures in
     let spawned : Name → ℕ → Event = (λ node word. Call node Command.Spawn) in
@@ -21,7 +22,7 @@ returns c = λ it h.
     let s2 : List (ℕ → Event) = Arrive trunk first ∷ s3 in
     let s1 : List (ℕ → Event) = Arrive trunk second ∷ s2 in
     let d : List (ℕ → Event) = Dial first second ∷ s1 in
-    let p0 = begins pair_plays from _ (record { world = c.in_ok-self.ensures; word = h.word; trace = refl }) in
+    let p0 = begins pair_plays from _ (record { world = c.in_ok-self.ensures; word = h.word; trace = c.louder-self.ensures ∙ ap louder h.trace; breaks = h.breaks }) in
     let p1 =
     goes_on pair_plays from (spawned first) (spawned second ∷ d) _ c.spawn.new.self p0
     (λ now k. subst (λ x. IsStage c.spawn.new.self (after now (Call x Command.Spawn))) a (c.in_ok-spawn.ensures now k)) in

@@ -2,7 +2,8 @@ use Rattle.std.proofs.Common.{◌∙◌, ap, string_bytes}
 use Rattle.std.specs.List.{position_or_len}
 use Rattle.script_session.proofs.Untouched.{turned}
 use Rattle.script_session.proofs.stage.Stage.take_turn.Goals as goal
-use Rattle.script_session.specs.Touched.{effects_of, is_touched}
+use Rattle.run_traces.specs.Traces.{effects_of}
+use Rattle.script_session.specs.Touched.{is_touched}
 use Rattle.world_core.specs.Names.{names_of}
 
 pub returns-clause-turned : goal.returns-clause-turned

@@ -1,9 +1,0 @@
-use Rattle.std.proofs.Common.{◌≡◌, ◌++◌, string_bytes}
-use Rattle.std.specs.List.{flat_map}
-use Rattle.node_core.specs.Model.{model_of}
-use Rattle.script_session.specs.Shown.{pids_of, process_text}
-use Rattle.script_session.proofs.showing.put_processes.Given as goal
-
-abbrev pub invariant-loop-before : goal.invariant-loop-before
-invariant-loop-before l =
-    string_bytes l.out ≡ string_bytes l.fn.out ++ flat_map (process_text (model_of l.node)) (pids_of (model_of l.node).mint l.before)
