@@ -11,6 +11,8 @@ use Rattle.script_lines.specs.Said.{Said}
 use Rattle.script_lines.specs.declared.line.Line.{Line}
 use Rattle.script_lines.specs.declared.reading.MayCome.{MayCome}
 use Rattle.script_lines.specs.declared.reason.Reason.{Reason}
+use Rattle.run_traces.specs.Breaks.{none_broken}
+use Rattle.run_traces.specs.declared.trace.Trace.{Trace}
 use Rattle.script_session.proofs.LineOutcomes.{expected_free}
 use Rattle.script_session.proofs.NodesFirst.{node_comes_early}
 use Rattle.script_session.specs.Session.{State, binds, is_taken, new_name, starts}
@@ -28,7 +30,12 @@ use Rattle.erl_handshake.specs.declared.setup.Setup.{Setup}
 -- a state without threads in which the same lines may come
 abbrev state_of : Known → State
 state_of known = record {
-  stage = record { world = record { names = names_of known.nodes; nodes = []; lists = fm.empty }; word = 0; trace = false };
+  stage = record {
+    world = record { names = names_of known.nodes; nodes = []; lists = fm.empty };
+    word = 0;
+    trace = Trace.Off;
+    breaks = none_broken;
+  };
   names = known.look;
   reply = known.reply;
   started = known.started;

@@ -2,3 +2,4 @@ pub mod Reading
 pub mod Asking
 pub mod Standing
 pub mod Merged
+pub mod Looking

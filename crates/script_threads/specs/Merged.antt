@@ -15,7 +15,7 @@ use Rattle.node_lock.specs.Seen.{BookSeen}
 use Rattle.node_history.specs.declared.entry.Entry.{Entry}
 use Rattle.node_lock.specs.declared.seat.Seat.{Seat}
 use Rattle.node_frames.specs.Frames.{Framed}
-use Rattle.script_session.specs.Stage.{sent_in}
+use Rattle.run_traces.specs.Traces.{sent_in}
 use Rattle.script_texts.specs.Texts.{merged_text}
 use Rattle.script_threads.specs.Standing.{nodes_of}
 use Rattle.script_threads.specs.declared.finishing.Unfinished.{Unfinished}

@@ -16,6 +16,12 @@ fn of_missing(verb: Verb) -> Option<&'static str> {
         Verb::Local => Some(
             "'local'; nodes in threads take what comes by themselves: 'settle' waits for it",
         ),
+        Verb::Travels => Some(
+            "'travels'; nodes in threads take what comes by themselves: a script without '--threads' shows it",
+        ),
+        Verb::Why => Some(
+            "'why'; nodes in threads keep no faults of broken connections: a script without '--threads' shows them",
+        ),
         Verb::Sweep => Some("'sweep'; nodes in threads sweep by themselves: 'settle' waits for it"),
         _ => None,
     }

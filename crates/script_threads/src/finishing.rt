@@ -17,7 +17,7 @@ use erl_names::NodeName;
 use joined_books::{FinishError, Placed};
 use node_history::Entry;
 use node_lock::Book;
-use script_session::put_sents;
+use run_traces::put_sents;
 use script_texts::put_merged;
 use std::alloc::{AllocError, Global};
 

@@ -50,12 +50,17 @@ impl NodeThreads {
             Line::Stop { node } => self.act(rt, node, Act::Stop, out),
             Line::Start { node } => self.act(rt, node, Act::Start, out),
             Line::Settle => self.settle(rt, out).map(|()| Made::Nothing),
-            Line::Show => self.show(rt, alloc, out).map(|()| Made::Nothing),
+            Line::Show { all } => self.show(rt, alloc, all, out).map(|()| Made::Nothing),
+            Line::Monitors { process } => self
+                .monitors(rt, alloc, process, out)
+                .map(|()| Made::Nothing),
             // `read` refuses these lines
             Line::Pair => Ok(Made::Nothing),
             Line::Deliver { .. } => Ok(Made::Nothing),
             Line::Local { .. } => Ok(Made::Nothing),
             Line::Sweep { .. } => Ok(Made::Nothing),
+            Line::Travels { .. } => Ok(Made::Nothing),
+            Line::Why { .. } => Ok(Made::Nothing),
             // `play` carries these out at their node, and leaves nothing to do here
             Line::Send { .. } => Ok(Made::Nothing),
             Line::Link { .. } => Ok(Made::Nothing),

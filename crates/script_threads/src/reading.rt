@@ -15,6 +15,8 @@ fn is_missing(verb: Option<Verb>) -> bool
         Some(Verb::Pair) => true,
         Some(Verb::Deliver) => true,
         Some(Verb::Local) => true,
+        Some(Verb::Travels) => true,
+        Some(Verb::Why) => true,
         Some(Verb::Sweep) => true,
         _ => false,
     }

@@ -189,11 +189,43 @@ impl NodeThreads {
         &self,
         rt: &R,
         alloc: Global,
+        all: bool,
         out: &mut String,
     ) -> Result<(), AllocError> {
         match &self.cast {
-            Cast::Running(running) => running.show(rt, alloc, out),
+            Cast::Running(running) => running.show(rt, alloc, all, out),
             Cast::Named(_) => Ok(()),
+        }
+    }
+
+    // Returns the line that shows the monitors of a process, or the refusal.
+    fn monitors_of<R: Wait>(
+        &self,
+        rt: &R,
+        alloc: Global,
+        process: &Pid,
+    ) -> Result<String, Refusal> {
+        match &self.cast {
+            Cast::Running(running) => running.monitors(rt, alloc, process),
+            Cast::Named(_) => Err(Refusal::NothingThere),
+        }
+    }
+
+    /// Prints the monitors of a process.
+    ///
+    /// # Errors
+    /// [`AllocError`] if out of memory.
+    pub(crate) fn monitors<R: Wait>(
+        &self,
+        rt: &R,
+        alloc: Global,
+        process: &Pid,
+        out: &mut String,
+    ) -> Result<(), AllocError> {
+        match self.monitors_of(rt, alloc, process) {
+            Ok(text) => out.push_str(text.as_str()),
+            Err(Refusal::OutOfMemory) => Err(AllocError),
+            Err(why) => put_refused(out, why),
         }
     }
 }
