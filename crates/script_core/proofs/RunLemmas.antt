@@ -1,6 +1,7 @@
 -- Some events lead to the world at the end of a script.
 use Rattle.std.proofs.Common.{ℕ, ◌+◌, Bool, true, false, cond, ltb, List, [], ◌∷◌, Result, Ok, Err, IfOk}
 use Rattle.script_lines.specs.declared.reason.Reason.{Reason}
+use Rattle.run_traces.specs.declared.trace.Trace.{Trace}
 use Rattle.script_session.specs.Session.{State, Step, fresh_state, line_does}
 use Rattle.script_session.specs.Stands.{IsLed}
 use Rattle.script_core.specs.Script.{Run, TooManyLines, lines_of, runs_lines, runs_step, script, stops}
@@ -26,6 +27,6 @@ lines_led leads number state (line ∷ lines) h =
     (stepped number state (line_does state line) (λ (after : State). runs_lines (number + 1) after lines) h
     (leads state line h) (λ after a. lines_led leads (number + 1) after lines a))
 
-pub script_led : ((trace : Bool) (word : ℕ) → IsLed (fresh_state trace word)) → Leads
-    → (trace : Bool) (seed : ℕ) (input : List ℕ) → IsLed (script trace seed input).state
+pub script_led : ((trace : Trace) (word : ℕ) → IsLed (fresh_state trace word)) → Leads
+    → (trace : Trace) (seed : ℕ) (input : List ℕ) → IsLed (script trace seed input).state
 script_led fresh leads trace seed input = lines_led leads 1 (fresh_state trace seed) (lines_of input) (fresh trace seed)

@@ -3,6 +3,7 @@ use Rattle.std.specs.Prelude.{ℕ, ◌+◌, ◌==◌, Bool, List, [], ◌∷◌,
 use Rattle.std.specs.List.{slice_split}
 use Rattle.script_lines.specs.Breaks.{is_break}
 use Rattle.script_lines.specs.declared.reason.Reason.{Reason}
+use Rattle.run_traces.specs.declared.trace.Trace.{Trace}
 use Rattle.script_session.specs.Session.{State, Step, fresh_state, line_does}
 
 -- the parts between line breaks are lines, but for an empty last part
@@ -47,5 +48,5 @@ abbrev pub runs_from : State → List ℕ → Run
 runs_from state input = runs_lines 1 state (lines_of input)
 
 -- from the first line, under the options
-abbrev pub script : (trace : Bool) → (seed : ℕ) → List ℕ → Run
+abbrev pub script : Trace → (seed : ℕ) → List ℕ → Run
 script trace seed input = runs_from (fresh_state trace seed) input

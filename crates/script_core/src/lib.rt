@@ -21,6 +21,7 @@ mod writing;
 pub use checking::{Tally, put_result};
 pub use laws::{every_expectation, every_script};
 pub use options::{CommandLine, Form, Options, STANDARD_INPUT, read_options};
+pub use run_traces::Trace;
 pub use script::{Outcome, run_drawing, run_script, run_telling};
 pub use script_lines::Reason;
 pub use script_threads::Machine;

@@ -42,6 +42,7 @@ impl Lines for Session {
     ghost keeps = { λ _ _ _. ⊥ };
 
     fn line(&mut self, alloc: Global, line: &[u8], out: &mut String) -> Result<(), Stop> {
+        self.count_line();
         Session::line(self, alloc, line, out)
     }
 

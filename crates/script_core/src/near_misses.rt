@@ -13,6 +13,8 @@ const NEAR_MISSES: &[(&str, &str)] = &[
     ("--svg", "write '--picture'"),
     ("-trace", "write '--trace'"),
     ("-trace=json", "write '--trace=json'"),
+    ("--text", "write '--trace=text'"),
+    ("-trace=text", "write '--trace=text'"),
     ("-picture", "write '--picture'"),
     ("-threads", "write '--threads'"),
     ("-check", "write '--check'"),
@@ -21,7 +23,7 @@ const NEAR_MISSES: &[(&str, &str)] = &[
 
 /// The remedy for a form of the trace that stands as a word of its own.
 const TRACE_FORM: &str =
-    "write '--trace=json', or '--trace' for hex; './json' is a script's file of that name";
+    "write '--trace=json' or '--trace=text', or '--trace' for hex; './json' is a script's file of that name";
 
 // Returns true if the word is the pattern.
 fn fits(pattern: &str, word: &str) -> bool {
@@ -37,7 +39,7 @@ pub(crate) fn remedy_for(words: &[String]) -> Option<&'static str> {
     let mut is_behind_trace = false;
     for word in words.iter().skip(1) {
         let word = word.as_str();
-        if is_behind_trace && (word == "json" || word == "hex") {
+        if is_behind_trace && (word == "json" || word == "text" || word == "hex") {
             return Some(TRACE_FORM);
         }
         for (pattern, remedy) in NEAR_MISSES {

@@ -2,6 +2,7 @@
 use crate::near_misses::remedy_for;
 use clap::error::ErrorKind;
 use clap::{Arg, ArgAction, ArgMatches, Command, Error};
+use run_traces::Trace;
 use std::alloc::{AllocError, Global};
 
 /// The form of a script's output.
@@ -31,8 +32,8 @@ pub struct CommandLine<'a> {
 /// The options of a script.
 #[derive(Clone, Copy, Debug, PartialEq, Eq)]
 pub struct Options {
-    /// True if each frame that is sent is printed. A script of a pair prints them in any case.
-    pub trace: bool,
+    /// The form in which the items that are sent are printed. A script of a pair prints them in any case.
+    pub trace: Trace,
     /// The form of the output.
     pub form: Form,
     /// The first challenge word of the handshakes, 0 to 4,294,967,295; 1 where none is given.
@@ -48,11 +49,15 @@ pub const STANDARD_INPUT: &str = "-";
 const MANY_FILES: &str =
     "one FILE is run at a time: write '--check' before the files to run each for its outcome";
 
-/// The forms of a trace: frames in hex, or events in JSON.
-const TRACES: &[&str] = &["hex", "json"];
+/// The forms of a trace: items in hex, items in hex and in words, or events in JSON.
+const TRACES: &[&str] = &["hex", "text", "json"];
 
 /// Events in threads have no one order in which they happen.
 const THREADS_AND_EVENTS: &str = "the argument '--threads' cannot be used with '--trace=json'";
+
+/// The words of an item are for runs without threads.
+const THREADS_AND_WORDS: &str =
+    "the argument '--threads' cannot be used with '--trace=text': write '--trace' for hex";
 
 const VERSION: &str = "0.1";
 
@@ -72,7 +77,8 @@ Commands of a script, one a line:
   die p TERM         p ends, as by exit/1
   receive p          the oldest message of p
   links p            the links of p
-  alive p            whether p is living
+  monitors p         the monitors of p, and those that others have of it
+  alive p            'alive' or 'not alive'
   register p ATOM    p takes a registered name at its node
   unregister p       p gives its registered name up
   whereis NODE ATOM  the process of NODE that has a registered name
@@ -83,18 +89,22 @@ Commands of a script, one a line:
   ends p q           how p and q hold their links to one another
   dial NODE PEER     NODE dials PEER
   route NODE PEER    the connection of NODE to PEER that is up
+  travels NODE PEER  the items in flight to NODE from PEER, the next to come first
+  why NODE PEER      the fault by which the last connection of NODE to PEER broke
   lose NODE PEER     NODE notices that its connection to PEER is lost
   cut NODE PEER      both do
   stop NODE          the node stops
   start NODE         it starts again, in its next incarnation
-  deliver NODE PEER  what comes next from PEER comes to NODE
-  local NODE         what comes next from NODE to itself comes
+  deliver NODE PEER  the next item from PEER comes to NODE
+  local NODE         the next item from NODE to itself comes
   sweep NODE         one record of a lost connection is swept
   settle             all of this happens, until nothing more may
-  show               the nodes, their processes and the messages that wait
+  show [all]         the nodes, their processes and the messages that wait; with all their links, monitors
+                     and connections, and the items in flight too
   expect WORDS       ends the script with status 7 unless the last line that was printed is WORDS; in them
                      $name is the process or the reference
-With --threads there is no pair, deliver, local or sweep: nodes in threads take what comes by themselves.
+With --threads there is no pair, deliver, local, sweep, travels or why: nodes in threads take what comes
+by themselves.
 
 Exit status: 0 the script ran; 2 wrong command line; 3 bad line; 4 no memory, or no threads; 5 the
 histories of nodes in threads don't merge; 6 reading or writing failed, or the script has more than
@@ -104,8 +114,10 @@ histories of nodes in threads don't merge; 6 reading or writing failed, or the s
 fn command<'a>(alloc: Global) -> Result<Command<'a>, Error> {
     let trace = Arg::new(alloc, "trace")
         .long("trace")
-        .value_name("json")
-        .help("Print each frame that is sent, in hex; with =json each event, in place of all else")
+        .value_name("text|json")
+        .help(
+            "Print each frame that is sent, in hex, and each connection that breaks; with =text also the frame in words; with =json each event, in place of all else",
+        )
         .num_args(0..=1)
         .require_equals(true)
         .default_missing_value("hex")
@@ -129,7 +141,7 @@ fn command<'a>(alloc: Global) -> Result<Command<'a>, Error> {
     let check = Arg::new(alloc, "check")
         .long("check")
         .help(
-            "Run each FILE, print whether it passed, and count; a script fails at an 'expect' that isn't met",
+            "Run each FILE, print 'passed' or 'failed' for it, and count; a script fails at an 'expect' that isn't met",
         )
         .action(ArgAction::SetTrue)
         .conflicts_with("trace")?
@@ -164,15 +176,25 @@ fn files_of<'a>(alloc: Global, matches: &ArgMatches<'a>) -> Result<Vec<&'a str>,
     Ok(files)
 }
 
-// Returns the form of a script's output, or None if the options exclude each other.
-fn form_of(matches: &ArgMatches<'_>) -> Option<Form> {
-    let events = matches.get_str("trace") == Some("json");
+// Returns the form in which items are printed.
+fn trace_of(matches: &ArgMatches<'_>) -> Trace {
+    match matches.get_str("trace") {
+        Some("hex") => Trace::Frames,
+        Some("text") => Trace::Words,
+        _ => Trace::Off,
+    }
+}
+
+// Returns the form of a script's output, or the reason why the options exclude each other.
+fn form_of(matches: &ArgMatches<'_>) -> Result<Form, &'static str> {
+    let trace = matches.get_str("trace");
     match (matches.get_flag("threads"), matches.get_flag("picture")) {
-        (true, _) if events => None,
-        (true, _) => Some(Form::Threads),
-        (false, true) => Some(Form::Picture),
-        (false, false) if events => Some(Form::Events),
-        (false, false) => Some(Form::Text),
+        (true, _) if trace == Some("json") => Err(THREADS_AND_EVENTS),
+        (true, _) if trace == Some("text") => Err(THREADS_AND_WORDS),
+        (true, _) => Ok(Form::Threads),
+        (false, true) => Ok(Form::Picture),
+        (false, false) if trace == Some("json") => Ok(Form::Events),
+        (false, false) => Ok(Form::Text),
     }
 }
 
@@ -186,8 +208,9 @@ pub fn read_options<'a>(alloc: Global, words: &'a [String]) -> Result<CommandLin
         return Err(command.error(ErrorKind::UnknownArgument, remedy)?);
     }
     let matches = command.try_get_matches_from_mut(words)?;
-    let Some(form) = form_of(&matches) else {
-        return Err(command.error(ErrorKind::ArgumentConflict, THREADS_AND_EVENTS)?);
+    let form = match form_of(&matches) {
+        Ok(form) => form,
+        Err(why) => return Err(command.error(ErrorKind::ArgumentConflict, why)?),
     };
     let files = files_of(alloc, &matches)?;
     let check = matches.get_flag("check");
@@ -196,7 +219,7 @@ pub fn read_options<'a>(alloc: Global, words: &'a [String]) -> Result<CommandLin
     }
     Ok(CommandLine {
         options: Options {
-            trace: matches.get_str("trace") == Some("hex"),
+            trace: trace_of(&matches),
             form,
             seed: matches.get_one::<u32>("seed").unwrap_or(1),
         },

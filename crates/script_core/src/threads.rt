@@ -1,5 +1,6 @@
 //! Scripts whose nodes have threads.
 ghost use Rattle.std.specs.Prelude.{◌≡◌, ◌≤◌, ◌+◌, [], List, length, ℕ};
+ghost use Rattle.run_traces.specs.Traces.{is_on};
 ghost use Rattle.script_core.specs.Threaded.{Along, EndsThreaded, RunsLine, RunsLines, RunsScript, Tells, fresh_known, kept_lines};
 ghost use Rattle.script_threads.specs.Standing.{IsKnown, Known};
 
@@ -89,7 +90,7 @@ pub fn run_threads<M: Machine, R: Read, W: Write>(
     options: &Options,
     advice: &mut String,
 ) -> Outcome
-    ensures { EndsThreaded options.now.trace (R.remaining reader.old) (W.contents writer.new) result }
+    ensures { EndsThreaded (is_on options.now.trace) (R.remaining reader.old) (W.contents writer.new) result }
 {
     let outcome = run_to_end(rt, alloc, reader, writer, options, advice);
     if outcome == Outcome::Failed {
@@ -109,13 +110,13 @@ fn run_to_end<M: Machine, R: Read, W: Write>(
     options: &Options,
     advice: &mut String,
 ) -> Outcome
-    ensures { EndsThreaded options.now.trace (R.remaining reader.old) (W.contents writer.new) result }
+    ensures { EndsThreaded (is_on options.now.trace) (R.remaining reader.old) (W.contents writer.new) result }
 {
     let mut script = Script::new(alloc, InThreads::new(alloc, options.seed));
     let outcome = read_all(rt, alloc, &mut script, reader, writer, advice);
     let InThreads { session, .. } = script.into_session();
     if outcome == Outcome::Ran {
-        return finish(rt, alloc, session, options.trace, writer);
+        return finish(rt, alloc, session, options.trace.is_on(), writer);
     }
     session.abandon(rt);
     outcome

@@ -1,7 +1,8 @@
 use Rattle.std.proofs.Common.{◌≡◌, map, rules, subst, sym, ap, ◌∙◌}
 use Rattle.script_core.proofs.Merging.{before_the_first, ends_early, ends_merged}
 use Rattle.script_core.proofs.ScriptLemmas.{for_known}
-use Rattle.script_core.specs.Threaded.{HasRun, RunsScript, fresh_known}
+use Rattle.run_traces.specs.Traces.{is_on}
+use Rattle.script_core.specs.Threaded.{HasRun, RunsScript, Tells, fresh_known}
 use Rattle.script_core.specs.declared.script.Outcome.TheVariants as outcome
 use Rattle.script_threads.specs.declared.session.ThreadedSession.{ThreadedSession}
 use Rattle.script_core.proofs.threads.run_to_end.Goals as goal
@@ -14,13 +15,14 @@ returns-then-eq g c =
     let kept = c.new-script.ensures.kept fresh_known (c.new.ensures.known, sym none) in
     let nothing = ap (λ it. map (λ x. x.items) it.lines.items) c.new-script.ensures.session ∙ none in
     let ran : c.read_all-outcome.result ≡ outcome.Ran = search rules in
-    ends_merged c.args.options.now.trace session remaining (g.W.Write.contents c.read_all-outcome.new.writer)
+    ends_merged (is_on c.args.options.now.trace) session remaining (g.W.Write.contents c.read_all-outcome.new.writer)
     (g.W.Write.contents c.finish.new.writer) c.finish.result
     (for_known remaining (λ bytes. HasRun fresh_known bytes session) (λ bytes e.
     subst (λ (it : ThreadedSession). HasRun fresh_known bytes it) (ap (λ it. it.session) (sym c.into_session-session.ensures))
     (subst (RunsScript fresh_known bytes c.read_all-outcome.new.script.session.session) ran
     (c.read_all-outcome.ensures fresh_known bytes (before_the_first c.new-script.result bytes remaining e kept nothing)))))
-    c.finish.ensures
+    (subst (λ on. Tells on session (g.W.Write.contents c.read_all-outcome.new.writer) (g.W.Write.contents c.finish.new.writer) c.finish.result)
+    c.is_on.ensures c.finish.ensures)
 
 pub returns : goal.returns
 returns g c =
@@ -28,6 +30,6 @@ returns g c =
     let none = ap (λ xs. map (λ x. x.items) xs) c.new.ensures.lines in
     let kept = c.new-script.ensures.kept fresh_known (c.new.ensures.known, sym none) in
     let nothing = ap (λ it. map (λ x. x.items) it.lines.items) c.new-script.ensures.session ∙ none in
-    ends_early c.args.options.now.trace c.read_all-outcome.new.script.session.session remaining
+    ends_early (is_on c.args.options.now.trace) c.read_all-outcome.new.script.session.session remaining
     (g.W.Write.contents c.read_all-outcome.new.writer) c.read_all-outcome.result (search rules) (λ bytes e.
     c.read_all-outcome.ensures fresh_known bytes (before_the_first c.new-script.result bytes remaining e kept nothing))
