@@ -1,5 +1,6 @@
 # Tries the program: each example and its drawing, each step of a page, each command line. ./verify reads
-# this file, with `room` set to a folder of its own, `program` to the program, and `count` to its counter.
+# this file, with `room` set to a folder of its own, `program` to the program, and `count` to its counter,
+# which adds to `passed` and `failed`.
 # Only bash, coreutils, diffutils and awk are needed.
 
 # Runs an example's script, and prints the output in the form of the example's file.
@@ -20,18 +21,33 @@ differs() {
     diff "$wanted" "$2"
 }
 
+# Prints each line of the first file that doesn't stand in the second, behind the line before it. Its first
+# line has to begin the second file, and its last line has to end it.
+lacks() {
+    awk '
+        NR == FNR { text = text $0 "\n"; next }
+        { at = index(text, $0); is_there = at == 1 || (at > 1 && FNR > 1) }
+        is_there { text = substr(text, at + length($0)) }
+        !is_there { print "it lacks " $0 }
+        END { if (text != "\n") print "behind these it has " text }' "$2" "$1"
+}
+
 # Prints each way in which an example's run isn't that of its files.
 wrong_in_example() {
     local base=$1 wanted=0 status
     [ ! -f "$base.status" ] || read -r wanted < "$base.status"
-    [ -f "$base.expected" ] || {
+    [ -f "$base.expected" ] || [ -f "$base.parts" ] || {
         echo "there is no $base.expected"
         return
     }
     run_example "$base" > "$room/stdout" 2> "$room/stderr"
     status=$?
     [ "$status" = "$wanted" ] || echo "its status is $status, and not $wanted"
-    differs "$base.expected" "$room/stdout"
+    if [ -f "$base.parts" ]; then
+        lacks "$base.parts" "$room/stdout"
+    else
+        differs "$base.expected" "$room/stdout"
+    fi
     differs "$base.stderr" "$room/stderr"
 }
 
@@ -52,14 +68,16 @@ print_plainly() {
     fi
 }
 
-# Prints each way in which an example's run with --threads differs from its run without.
+# Prints each way in which an example's run with --threads differs from its run without. A script that runs
+# through prints 'merged' too.
 wrong_in_threads() {
-    local base=$1 status
+    local base=$1 wanted=0 status
+    [ ! -f "$base.status" ] || read -r wanted < "$base.status"
     timeout 60 "$program" --threads < "$base.script" > "$room/stdout" 2> "$room/stderr"
     status=$?
-    [ "$status" -eq 0 ] || echo "its status is $status, and not 0"
-    { print_plainly "$base"; echo merged; } | diff - "$room/stdout"
-    differs /dev/null "$room/stderr"
+    [ "$status" = "$wanted" ] || echo "with --threads its status is $status, and not $wanted"
+    { print_plainly "$base"; [ "$wanted" -ne 0 ] || echo merged; } | diff - "$room/stdout"
+    differs "$base.stderr" "$room/stderr"
 }
 
 # Counts a thing as passed where nothing is wrong with it, and else prints all that is.
@@ -82,27 +100,119 @@ try_scripts() {
     done
 }
 
-# Tries each step of a page. A step is a block that begins with ```erldist, with the options of the program
-# behind that word, and the block ```output that follows it; these are the script and what it prints.
+# Splits a page into its steps, $room/steps/N, each with the files of an example. Prints each fault of the
+# page's form. A step is a script, one of
+#
+#   erldist WORDS            the script, which runs with these words of a command line, or with none
+#   erldist-both             the script, which runs without --threads, and with it
+#   erldist-printed WORDS    lines of Bash that print the script
+#
+# and behind it the output, and the message or lines to run behind the script. Without an output it prints
+# nothing.
+#
+#   output                   the whole output
+#   parts                    parts of the output, one a line, as `lacks` finds them
+#   message STATUS           the exit status, and the whole of standard error; else these are 0 and nothing
+#   each                     lines and their answers, as `answer_each` prints them
+#
+# Each is a block, whose first line is ``` and these words. A block without words is no part of a step.
+split_page() {
+    awk -v steps="$room/steps" '
+        function wrong(text) { print "line " NR ": " text }
+        function put(suffix, text) { printf "%s", text > (base suffix); close(base suffix) }
+        function begin(suffix) { put(suffix, ""); file = base suffix }
+        inside && $0 == "```" {
+            if (file ~ /[.]each$/ && !listed) wrong("the block has no line that runs")
+            if (file != "") close(file)
+            inside = 0
+            file = ""
+            next
+        }
+        inside && /^```/ { wrong("the block before this one is open") }
+        inside { if (file != "") print > file; if (/^[>$] /) listed = 1; next }
+        /^[ \t]+```|^[ \t]*~~~/ { wrong("a block has to begin with ```, at the beginning of its line") }
+        !/^```/ { next }
+        { inside = 1; words = form = substr($0, 4); sub(/^[^ ]+ ?/, "", words) }
+        form == "" { next }
+        form == "erldist-both" || form ~ /^erldist(-printed)?( |$)/ {
+            if (due) wrong("the script before this one has no output and no message")
+            base = sprintf("%s/%03d", steps, ++count)
+            begin(".script")
+            if (words != "") put(".args", words "\n")
+            if (form ~ /-both/) put(".threads", "")
+            if (form ~ /-printed/) begin(".bash")
+            due = may = 1
+            parts = 0
+            next
+        }
+        due && form == "output" { begin(".expected"); due = 0; next }
+        due && form == "parts" { begin(".parts"); due = 0; parts = 1; next }
+        may && form ~ /^message [0-9]+$/ {
+            if (due) put(".expected", "")
+            put(".status", words "\n")
+            begin(".stderr")
+            due = may = 0
+            next
+        }
+        may && !parts && form == "each" {
+            if (due) put(".expected", "")
+            begin(".each")
+            due = may = listed = 0
+            next
+        }
+        { wrong("no such block may stand here: " $0) }
+        END {
+            if (inside) wrong("the last block is open")
+            if (due) wrong("the last script has no output and no message")
+        }' "$1"
+}
+
+# Prints a block `each` with the answers of the program. A line stands behind '> ', and a line of Bash that
+# prints one stands behind '$ '. Each runs alone behind the step's script. Below it comes all that it adds to
+# the output, and then its message. With a message the status is 3.
+answer_each() {
+    local base=$1 script own line text said message wanted status words=()
+    [ ! -f "$base.args" ] || read -ra words < "$base.args"
+    script=$(cat "$base.script" && echo .)
+    mapfile -t own < "$base.expected"
+    while IFS= read -r line; do
+        text=${line:2}
+        case $line in
+            '> '*) ;;
+            '$ '*) text=$(bash -c "$text" < /dev/null) ;;
+            *) continue ;;
+        esac
+        timeout 60 "$program" "${words[@]}" <<< "${script%.}$text" > "$room/stdout" 2> "$room/stderr"
+        status=$?
+        mapfile -t said < "$room/stdout"
+        mapfile -t message < "$room/stderr"
+        wanted=0
+        [ ${#message[@]} -eq 0 ] || wanted=3
+        [ "${said[*]::${#own[@]}}" != "${own[*]}" ] || said=("${said[@]:${#own[@]}}")
+        said=("$line" "${said[@]}" "${message[@]}")
+        [ "$status" = "$wanted" ] || said+=("its status is $status, and not $wanted")
+        printf '%s\n' "${said[@]}"
+    done < "$base.each"
+}
+
+# Prints each way in which a step's runs aren't those of its files.
+wrong_in_step() {
+    local base=$1
+    [ ! -f "$base.bash" ] || bash "$base.bash" > "$base.script" || echo "the commands that print its script failed"
+    wrong_in_example "$base"
+    [ ! -f "$base.threads" ] || wrong_in_threads "$base"
+    [ ! -f "$base.each" ] || answer_each "$base" | diff "$base.each" -
+}
+
+# Tries each step of a page, and that the page has no fault of its form.
 try_page() {
-    local page=$1 at=0 step words status
+    local page=$1 at=0 step wrong
     rm -rf "$room/steps" && mkdir "$room/steps" || return
-    awk -v room="$room/steps" '
-        /^```erldist/ { sub(/^```erldist ?/, ""); n++; base = sprintf("%s/%03d", room, n); print > (base ".args"); file = base ".script"; printf "" > file; next }
-        /^```output$/ { if (base != "") { file = base ".expected"; printf "" > file }; base = ""; next }
-        /^```/ { file = ""; next }
-        file != "" { print > file }' "$page"
+    wrong=$(split_page "$page" 2>&1)
+    [ -z "$wrong" ] || judge "$page" "$wrong"
     for step in "$room"/steps/*.script; do
         at=$((at + 1))
-        read -ra words < "${step%.script}.args"
-        timeout 60 "$program" "${words[@]}" < "$step" > "$room/stdout" 2> "$room/stderr"
-        status=$?
-        judge "$page, step $at" "$(
-            [ -f "${step%.script}.expected" ] || echo "no block \`\`\`output follows it"
-            [ "$status" -eq 0 ] || echo "its status is $status, and not 0"
-            differs "${step%.script}.expected" "$room/stdout"
-            differs /dev/null "$room/stderr"
-        )"
+        judge "$page, step $at" "$(wrong_in_step "${step%.script}")"
     done
 }
 
@@ -229,21 +339,54 @@ wrong_under_profiles() {
     done
 }
 
+# Tries the runs of some examples under each pair of profiles.
+try_profiles() {
+    judge "nodes of each pair of profiles" "$(wrong_under_profiles)"
+}
+
+# Tries a fault after each event of a run.
+try_faults() {
+    judge "a fault after each event of $1" "$(wrong_after_faults "$1")"
+}
+
+# Runs a command that judges, with a folder of its own as `room`. Leaves there what it prints and counts.
+try_apart() {
+    local room=$1 passed=0 failed=0
+    mkdir -p "$room"
+    "${@:2}" > "$room/said"
+    echo "$passed $failed" > "$room/counts"
+}
+
+# Runs commands that judge side by side, each given as one text. Prints what each prints, and adds its counts.
+try_side_by_side() {
+    local commands=("$@") words=() started=() at good bad
+    for at in "${!commands[@]}"; do
+        read -ra words <<< "${commands[at]}"
+        try_apart "$room/apart$at" "${words[@]}" &
+        started+=($!)
+    done
+    for at in "${!started[@]}"; do
+        wait "${started[at]}"
+        cat "$room/apart$at/said"
+        read -r good bad < "$room/apart$at/counts" || good=0 bad=1
+        passed=$((passed + good))
+        failed=$((failed + bad))
+    done
+}
+
 # Tries all of this, and that the words that need no program are the program's own.
 try_program() {
-    local word page run
+    local word commands=(try_scripts)
     for word in help version; do
         judge "scripts/$word.txt" "$("$program" "--$word" 2>&1 | diff "scripts/$word.txt" -)"
     done
     shopt -s nullglob
-    try_scripts
-    for page in README.md docs/*.md; do
-        try_page "$page"
+    for word in README.md docs/*.md tests/*.md; do
+        commands+=("try_page $word")
     done
-    try_command_lines
-    try_streams
-    judge "nodes of each pair of profiles" "$(wrong_under_profiles)"
-    for run in "${!events_of[@]}"; do
-        judge "a fault after each event of $run" "$(wrong_after_faults "$run")"
+    commands+=(try_command_lines try_streams try_profiles)
+    for word in "${!events_of[@]}"; do
+        commands+=("try_faults $word")
     done
+    try_side_by_side "${commands[@]}"
 }
