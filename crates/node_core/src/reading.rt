@@ -1,8 +1,9 @@
 //! A new node, and the queries of a node.
-ghost use Rattle.std.specs.Prelude.{◌≡◌, ◌↔◌, IfOk, IsTrue, T, is_some};
+ghost use Rattle.std.specs.Prelude.{◌≡◌, ◌↔◌, IfOk, IsTrue, T, is_some, map};
 ghost use Rattle.std.specs.FinMap as fm;
 ghost use Rattle.std.specs.Option.{option_copied, option_map};
 ghost use Rattle.dist_model.specs.Losses.{any_side};
+ghost use Rattle.dist_model.specs.Naming.{name_of};
 ghost use Rattle.dist_model.specs.Node.{end_of, ends_of, living, route, side_where};
 ghost use Rattle.dist_model.specs.Quiet.{nothing_between};
 ghost use Rattle.dist_model.specs.Runs.{new_node};
@@ -10,6 +11,7 @@ ghost use Rattle.dist_model.specs.Sides.{holds, is_losing};
 ghost use Rattle.dist_model.specs.World.{first_of};
 ghost use Rattle.node_connections.specs.Fronts.{IsWhole};
 ghost use Rattle.node_core.specs.Model.{model_of};
+ghost use Rattle.node_plan.specs.OwnList.{own_item};
 ghost use Rattle.node_tables.specs.Passing.{passes};
 ghost use Rattle.node_tables.specs.Standings.{side_of};
 ghost use Rattle.node_tables.specs.Lives.{life_of};
@@ -18,8 +20,9 @@ ghost use Rattle.sorted_map.specs.Entries.{next};
 
 use crate::node::Node;
 use conn_core::Side;
+use erl_control::Signal;
 use erl_handshake::Setup;
-use erl_names::{NodeName, TrunkId};
+use erl_names::{Mint, NodeName, TrunkId};
 use erl_term::{Atom, Pid};
 use link_core::End;
 use monitor_core::{Watchers, Watches};
@@ -27,6 +30,7 @@ use node_connections::{Sweeping, is_whole};
 use node_plan::Node as State;
 use node_tables::{Life, Which};
 use std::alloc::{AllocError, Global};
+use std::collections::VecDeque;
 
 impl Node {
     /// Returns a running node of `name` and `setup`, in its first incarnation. (Reference Manual,
@@ -65,6 +69,21 @@ impl Node {
         self.state.mint().creation().number()
     }
 
+    /// Returns the mint of its incarnation: the numbers that it has drawn. (Reference Manual, Processes; ERTS
+    /// User's Guide, Distribution Protocol, New Link Protocol.)
+    pub fn mint(&self) -> &Mint
+        ensures { result.now ≡ (model_of self.now).mint }
+    {
+        self.state.mint()
+    }
+
+    /// Returns the number of connections that it has ever dialed.
+    pub fn dialed(&self) -> u64
+        ensures { result ≡ (model_of self.now).dialed }
+    {
+        self.state.dialed()
+    }
+
     /// Returns the number of processes that its incarnation has spawned. Their ids are 1 to that number.
     pub fn spawned(&self) -> u32
         ensures { result ≡ (model_of self.now).mint.pids }
@@ -86,6 +105,14 @@ impl Node {
         ensures { option_copied result ≡ fm.get (model_of self.now).names name.now }
     {
         self.state.holder(name)
+    }
+
+    /// Returns the registered name of a process, if it has one. (Reference Manual, Processes, Registered
+    /// Processes.)
+    pub fn name_of(&self, process: &Pid) -> Option<&Atom>
+        ensures { option_copied result ≡ option_map (λ entry. entry.0) (name_of (model_of self.now).names process.now) }
+    {
+        self.state.name_of(process)
     }
 
     /// Returns true if a process is living here.
@@ -169,6 +196,14 @@ impl Node {
             Some(side) => Some(&side.trunk),
             None => None,
         }
+    }
+
+    /// Returns the signals in flight from the node to itself, the first to come first. (Reference Manual,
+    /// Processes, Delivery of Signals.)
+    pub fn local_signals(&self) -> &VecDeque<Signal>
+        ensures { map own_item result.now.items ≡ (model_of self.now).local }
+    {
+        self.state.local()
     }
 
     /// Returns true if a signal is in flight from the node to itself. (Reference Manual, Processes,

@@ -1,5 +1,5 @@
 //! The queries of a node and its processes.
-ghost use Rattle.std.specs.Prelude.{◌≡◌, ◌<◌, IfNone, IfSome, Some, T, false, true};
+ghost use Rattle.std.specs.Prelude.{◌≡◌, ◌<◌, IfNone, IfSome, Some, T, false, map, true};
 ghost use Rattle.std.specs.FinMap as fm;
 ghost use Rattle.std.specs.Option.{is_some, option_copied, option_map};
 ghost use Rattle.std.specs.Ordering.{is_lt};
@@ -32,6 +32,7 @@ use link_core::End;
 use monitor_core::{Watchers, Watches};
 use node_frames::same_name;
 use node_tables::{FoundLink, Life, Which};
+use std::collections::VecDeque;
 
 impl Node {
     /// Returns the name of the node.
@@ -102,6 +103,14 @@ impl Node {
         self.local.front()
     }
 
+    /// Returns the signals in flight from the node to itself, the first to come first. (Reference Manual,
+    /// Processes, Delivery of Signals.)
+    pub fn local(&self) -> &VecDeque<Signal>
+        ensures { map own_item result.now.items ≡ (seen self.now).local }
+    {
+        &self.local
+    }
+
     /// Returns the monitors that its processes own.
     pub fn watches(&self) -> &Watches
         ensures { result.now.monitors ≡ (seen self.now).watches }
@@ -135,6 +144,14 @@ impl Node {
         ensures { option_copied result ≡ fm.get (seen self.now).names name.now }
     {
         self.names.holder(name)
+    }
+
+    /// Returns the registered name of a process, if it has one. (Reference Manual, Processes, Registered
+    /// Processes.)
+    pub fn name_of(&self, process: &Pid) -> Option<&Atom>
+        ensures { option_copied result ≡ option_map (λ entry. entry.0) (name_of (seen self.now).names process.now) }
+    {
+        self.names.name_of(process)
     }
 
     /// Returns true if a process has a name. (Reference Manual, Processes, Registered Processes.)
