@@ -1,5 +1,5 @@
 //! The faults by which connections broke.
-ghost use Rattle.std.specs.Prelude.{◌≡◌, ◌++◌, OnOk, position, string_bytes};
+ghost use Rattle.std.specs.Prelude.{◌≡◌, ◌++◌, IfOk, OnOk, position, string_bytes};
 ghost use Rattle.std.specs.Option.{option_copied};
 ghost use Rattle.dist_model.specs.World.{Report as TheReport};
 ghost use Rattle.node_core.specs.Told.{Tells};
@@ -29,6 +29,18 @@ pub struct Breaks {
     list: Vec<Break>,
 }
 
+impl Clone for Break {
+    ghost is_clone = { λ it copy. copy ≡ it };
+
+    fn clone(&self) -> Result<Break, AllocError> {
+        Ok(Break {
+            node: self.node.clone()?,
+            peer: self.peer.clone()?,
+            fault: self.fault,
+        })
+    }
+}
+
 impl Break {
     fn is_of(&self, node: &Atom, peer: &Atom) -> bool
         ensures { result ≡ is_of node.now peer.now self.now }
@@ -52,6 +64,18 @@ impl Breaks {
         Breaks {
             list: Vec::new(alloc),
         }
+    }
+
+    /// Returns a copy with the same breaks. It has memory of its own.
+    ///
+    /// # Errors
+    /// [`AllocError`] if out of memory.
+    pub fn copy(&self, alloc: Global) -> Result<Breaks, AllocError>
+        ensures { IfOk result (λ copy. broken_by copy ≡ broken_by self.now) }
+    {
+        Ok(Breaks {
+            list: Vec::from_clones(alloc, &self.list)?,
+        })
     }
 
     /// Returns the fault by which the last connection of a node to a peer broke. [`None`] if none has broken.

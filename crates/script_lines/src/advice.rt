@@ -9,6 +9,9 @@ use erl_names::NodeName;
 use script_terms::{Named, Names, is_name, split_at_space};
 use std::alloc::{AllocError, Global};
 
+/// The remedy for a mark of blocks.
+const BLOCKS: &str = "; a script with blocks is run by './erldist --explore FILE'";
+
 /// The remedy for a tab in a line.
 const TABS: &str = "; words are parted by spaces, not by tabs";
 
@@ -65,6 +68,9 @@ fn put_unknown_command(alloc: Global, out: &mut String, verb: &str) -> Result<()
     }
     if verb.contains('\t') {
         return out.push_str(TABS);
+    }
+    if matches!(verb, "par" | "and" | "end") {
+        return out.push_str(BLOCKS);
     }
     match nearest(alloc, verb)? {
         Some(command) => write!(out, "; did you mean '{command}'?"),

@@ -28,6 +28,18 @@ impl Reply {
         }
     }
 
+    /// Returns a copy, which is the same line.
+    ///
+    /// # Errors
+    /// [`AllocError`] if out of memory.
+    pub fn copy(&self, alloc: Global) -> Result<Reply, AllocError>
+        ensures { IfOk result (λ copy. copy.line.items ≡ self.now.line.items) }
+    {
+        let mut line = Vec::new(alloc);
+        line.extend_from_slice(&self.line)?;
+        Ok(Reply { line })
+    }
+
     /// Takes the last line of `text`, the output of a command. A text without a line changes nothing.
     ///
     /// # Errors

@@ -1,5 +1,5 @@
 //! The names of a script.
-ghost use Rattle.std.specs.Prelude.{◌≡◌, ◌≤◌, ◌<◌, None, OnOk, OnErr, option_copied};
+ghost use Rattle.std.specs.Prelude.{◌≡◌, ◌≤◌, ◌<◌, None, IfOk, OnOk, OnErr, option_copied};
 ghost use Rattle.std.specs.String.{string_bytes};
 ghost use Rattle.script_terms.specs.Binding.{Look, Knows, with_name, room};
 ghost use Rattle.script_terms.specs.Reading.{Answers, named_at};
@@ -19,7 +19,18 @@ pub enum Named {
     Monitor(Reference),
 }
 
-/// The names that a script has bound, in the order in which it did.
+impl Clone for Named {
+    ghost is_clone = { λ named copy. copy ≡ named };
+
+    fn clone(&self) -> Result<Named, AllocError> {
+        match self {
+            Named::Process(process) => Ok(Named::Process(process.clone()?)),
+            Named::Monitor(reference) => Ok(Named::Monitor(reference.clone()?)),
+        }
+    }
+}
+
+/// The names that a script has bound.
 #[derive(Drop)]
 pub struct Names {
     bound: IndexMap<String, Named>,
@@ -33,6 +44,20 @@ impl Names {
         Names {
             bound: IndexMap::new(alloc),
         }
+    }
+
+    /// Returns a copy in which each name has the same value. It has memory of its own.
+    ///
+    /// # Errors
+    /// [`AllocError`] if out of memory.
+    pub fn copy(&self, alloc: Global) -> Result<Names, AllocError>
+        ensures { (look : Look) → Knows self.now look → IfOk result (λ copy. Knows copy look) }
+    {
+        let mut copy = Names::new(alloc);
+        for (name, named) in self.bound.iter().rev() {
+            copy.bind(alloc, name.as_str(), named.clone()?)?;
+        }
+        Ok(copy)
     }
 
     /// Returns the value of the name, if it is bound.
@@ -58,8 +83,7 @@ impl Names {
         self.bound.insert(name, named).unwrap();
     }
 
-    /// Binds a name, and changes nothing where memory is wanting. A name that was bound keeps its
-    /// place in the order.
+    /// Binds a name, and changes nothing where memory is wanting.
     pub fn bind(&mut self, alloc: Global, name: &str, named: Named) -> Result<(), AllocError>
         ensures ok { OnOk result ((look : Look) → Knows self.old look → Knows self.new (with_name look name.now named)) }
         ensures err { OnErr result ((look : Look) → Knows self.old look → Knows self.new look) }
