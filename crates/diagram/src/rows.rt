@@ -7,6 +7,9 @@ pub struct Diagram {
     pub title: String,
     pub lanes: Vec<Lane>,
     pub rows: Vec<Row>,
+    /// The number of the first rows that aren't drawn. Items that are still on their way behind these come
+    /// from the upper edge.
+    pub hidden: usize,
 }
 
 /// A life line.
@@ -23,6 +26,11 @@ pub struct Lane {
 pub struct Row {
     /// What stands at the left, a line each.
     pub words: Vec<String>,
+    /// The last of these words in full, if they are shortened. Else empty.
+    pub tooltip: String,
+    /// Lines at which nothing happened. They stand at the left in one line, as their number if there are
+    /// several, and need no room of their own.
+    pub folded: Vec<String>,
     /// The queue from which an item is taken.
     pub took: Option<u32>,
     pub marks: Vec<Mark>,
@@ -44,6 +52,8 @@ pub struct Note {
     pub lane: usize,
     pub tone: Tone,
     pub words: String,
+    /// The words in full, if they are shortened. Else empty.
+    pub tooltip: String,
 }
 
 /// How a note is coloured. The words of the note say the same.

@@ -3,16 +3,11 @@ ghost use Rattle.std.specs.Prelude.{OnOk, string_bytes};
 ghost use Rattle.diagram_svg.specs.Markup.{Appends};
 
 use crate::figures::{Point, put_box, put_line, put_words};
-use crate::frame::Frame;
+use crate::frame::{Column, Frame};
 use crate::rows::line_of;
 use crate::words::shortened;
 use diagram::{Arrow, End, Item, Layout, Mark, Row};
 use std::alloc::{AllocError, Global};
-
-// How many characters of what an item is called have room in a label, and how many with what becomes of it.
-const LABEL: usize = 24;
-
-const WHOLE_LABEL: usize = 30;
 
 // An arrow from a place to another, whether it goes to the right, and whether its label stands at the right
 // of its start.
@@ -43,28 +38,60 @@ fn is_said_right(frame: Frame, item: &Item, is_right: bool) -> bool {
     }
 }
 
-// Where an arrow begins and ends. One that no row takes ends between the lanes, the farther the fewer
-// such are before it, so that none comes before another.
-fn span_of(frame: Frame, layout: &Layout, item: &Item, arrow: Arrow, before: u64) -> Span {
-    let is_right = item.from <= item.to;
-    let start = frame.lane(item.from);
-    let way = frame.lane(item.to).abs_diff(start).max(60);
+// The rank of an arrow: the number of arrows of its queue before it that no row takes, and the number of all
+// arrows before it that come from the upper edge.
+#[derive(Clone, Copy)]
+struct Rank {
+    before: u64,
+    above: u64,
+}
+
+impl Rank {
+    // Returns the rank of the arrow behind this one in its queue.
+    fn behind(self, frame: Frame, arrow: Arrow) -> Rank {
+        let comes = if frame.comes_from_above(arrow) { 1 } else { 0 };
+        Rank {
+            before: self.before.saturating_add(waits(arrow.end)),
+            above: self.above.saturating_add(comes),
+        }
+    }
+}
+
+// Returns the place at which an arrow begins: the line of its mark, or the upper edge.
+fn start_of(frame: Frame, layout: &Layout, arrow: Arrow, rank: Rank) -> u64 {
+    if frame.is_hidden(arrow.row) {
+        return frame.edge(rank.above);
+    }
     let line = line_of(layout, arrow.row, arrow.mark);
-    let (reach, y) = match arrow.end {
+    frame.line(layout, arrow.row, line)
+}
+
+// Returns the way from a lane to the end of an arrow, and the place of that end. An arrow that no row takes
+// ends between the lanes, the farther the fewer such arrows are before it. So none hides another.
+fn end_of(frame: Frame, layout: &Layout, way: u64, end: End, before: u64) -> (u64, u64) {
+    match end {
         End::Taken(row) => (way.saturating_sub(3), frame.line(layout, row, 0)),
         End::Lost(row) => (
             way.saturating_mul(5) / before.saturating_mul(2).saturating_add(10),
-            frame.row(layout, row.saturating_add(1)).saturating_sub(10),
+            frame.end(layout, row),
         ),
         End::OnItsWay => (
             way.saturating_mul(3) / before.saturating_add(4),
             frame.bottom(layout).saturating_add(4),
         ),
-    };
+    }
+}
+
+// Returns the place of an arrow.
+fn span_of(frame: Frame, layout: &Layout, item: &Item, arrow: Arrow, rank: Rank) -> Span {
+    let is_right = item.from <= item.to;
+    let start = frame.lane(item.from);
+    let way = frame.lane(item.to).abs_diff(start).max(60);
+    let (reach, y) = end_of(frame, layout, way, arrow.end, rank.before);
     Span {
         from: Point {
             x: start,
-            y: frame.line(layout, arrow.row, line),
+            y: start_of(frame, layout, arrow, rank),
         },
         to: Point {
             x: aside(start, reach, is_right),
@@ -187,13 +214,28 @@ fn fate_of(end: End) -> &'static str {
     }
 }
 
-// What is said of an item at the start of its arrow.
-fn label_of(alloc: Global, item: &Item, end: End) -> Result<String, AllocError> {
+// The words at the start of an arrow, and their tooltip.
+#[derive(Drop)]
+struct Label {
+    words: String,
+    tooltip: String,
+}
+
+// Returns the words at the start of an item's arrow. The tooltip is that of the item, behind the name of the
+// item if that is cut.
+fn label_of(alloc: Global, column: Column, item: &Item, end: End) -> Result<Label, AllocError> {
     let fate = fate_of(end);
-    let room = WHOLE_LABEL.saturating_sub(fate.len()).min(LABEL);
-    let mut label = shortened(alloc, item.label.as_str(), room)?;
-    label.push_str(fate)?;
-    Ok(label)
+    let room = column.whole_label.saturating_sub(fate.len());
+    let name = item.label.as_str();
+    let mut words = shortened(alloc, name, room.min(column.label))?;
+    let mut tooltip = String::new(alloc);
+    if words.as_str() != name {
+        tooltip.push_str(name)?;
+        tooltip.push_str("\n")?;
+    }
+    tooltip.push_str(item.tooltip.as_str())?;
+    words.push_str(fate)?;
+    Ok(Label { words, tooltip })
 }
 
 // Beside the start of an arrow, or above the arrow where that goes to the same side.
@@ -208,6 +250,7 @@ fn label_height(span: Span) -> u64 {
 fn put_label(
     alloc: Global,
     out: &mut String,
+    column: Column,
     span: Span,
     end: End,
     item: &Item,
@@ -223,8 +266,8 @@ fn put_label(
         x: aside(span.from.x, 9, span.is_said_right),
         y: label_height(span),
     };
-    let label = label_of(alloc, item, end)?;
-    put_words(out, class, at, label.as_str(), item.tooltip.as_str())?;
+    let Label { words, tooltip } = label_of(alloc, column, item, end)?;
+    put_words(out, class, at, words.as_str(), tooltip.as_str())?;
     Ok(())
 }
 
@@ -247,6 +290,7 @@ fn put_part(
     alloc: Global,
     out: &mut String,
     part: Part,
+    column: Column,
     span: Span,
     end: End,
     item: &Item,
@@ -255,7 +299,7 @@ fn put_part(
 {
     match part {
         Part::Lines => put_arrow(out, span, end, item.tooltip.as_str()),
-        Part::Labels => put_label(alloc, out, span, end, item),
+        Part::Labels => put_label(alloc, out, column, span, end, item),
     }
 }
 
@@ -268,7 +312,32 @@ fn waits(end: End) -> u64 {
     }
 }
 
-// The arrows of a queue.
+// Appends an arrow, unless it ends above the rows that are drawn.
+fn put_one(
+    alloc: Global,
+    out: &mut String,
+    part: Part,
+    frame: Frame,
+    layout: &Layout,
+    rows: &[Row],
+    arrow: Arrow,
+    rank: Rank,
+) -> Result<(), AllocError>
+    ensures { OnOk result (Appends (string_bytes out.old) (string_bytes out.new)) }
+{
+    if frame.is_over(arrow) {
+        return Ok(());
+    }
+    match item_of(rows, arrow) {
+        Some(item) => {
+            let span = span_of(frame, layout, item, arrow, rank);
+            put_part(alloc, out, part, frame.column, span, arrow.end, item)
+        }
+        None => Ok(()),
+    }
+}
+
+// Appends the arrows of a queue. `above` arrows of other queues come from the upper edge before them.
 fn put_queue(
     alloc: Global,
     out: &mut String,
@@ -277,16 +346,14 @@ fn put_queue(
     layout: &Layout,
     rows: &[Row],
     arrows: &[Arrow],
+    above: u64,
 ) -> Result<(), AllocError>
     ensures { OnOk result (Appends (string_bytes out.old) (string_bytes out.new)) }
 {
-    let mut before: u64 = 0;
+    let mut rank = Rank { before: 0, above };
     for arrow in arrows {
-        if let Some(item) = item_of(rows, *arrow) {
-            let span = span_of(frame, layout, item, *arrow, before);
-            put_part(alloc, out, part, span, arrow.end, item)?;
-        }
-        before = before.saturating_add(waits(arrow.end));
+        put_one(alloc, out, part, frame, layout, rows, *arrow, rank)?;
+        rank = rank.behind(frame, *arrow);
     }
     Ok(())
 }
@@ -301,8 +368,10 @@ fn put_parts(
 ) -> Result<(), AllocError>
     ensures { OnOk result (Appends (string_bytes out.old) (string_bytes out.new)) }
 {
+    let mut above: u64 = 0;
     for arrows in &layout.arrows {
-        put_queue(alloc, out, part, frame, layout, rows, arrows)?;
+        put_queue(alloc, out, part, frame, layout, rows, arrows, above)?;
+        above = above.saturating_add(frame.count_above(arrows));
     }
     Ok(())
 }

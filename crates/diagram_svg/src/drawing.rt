@@ -46,7 +46,7 @@ pub fn put_picture(alloc: Global, out: &mut String, diagram: &Diagram) -> Result
     ensures { OnOk result (AppendsDocument (string_bytes out.old) (string_bytes out.new)) }
 {
     let layout = lay_out(alloc, &diagram.rows)?;
-    let frame = frame_of(diagram);
+    let frame = frame_of(diagram, &layout);
     let (width, height) = (frame.width(), frame.height(&layout));
     put_start(out, width, height, diagram.title.as_str(), style())?;
     put_figures(alloc, out, frame, diagram, &layout)?;

@@ -34,3 +34,24 @@ pub(crate) fn put_short(
     put_words(out, class, at, short.as_str(), tooltip)?;
     Ok(())
 }
+
+/// Appends the first characters of a text that is shortened itself. Its tooltip is the text in full, if there
+/// is one, or else as of [`put_short`].
+pub(crate) fn put_explained(
+    alloc: Global,
+    out: &mut String,
+    class: &str,
+    at: Point,
+    words: &str,
+    tooltip: &str,
+    most: usize,
+) -> Result<(), AllocError>
+    ensures { OnOk result (Appends (string_bytes out.old) (string_bytes out.new)) }
+{
+    if tooltip.is_empty() {
+        return put_short(alloc, out, class, at, words, most);
+    }
+    let short = shortened(alloc, words, most)?;
+    put_words(out, class, at, short.as_str(), tooltip)?;
+    Ok(())
+}

@@ -1,7 +1,7 @@
 //! Diagrams that are told by texts.
 //!
 //! A row has its parts between `;`: its words at the left, and then `TAKE QUEUE`, `GIVE-UP QUEUE`,
-//! `NOTE LANE WORDS` and `SEND FROM TO QUEUE LABEL`, in any order.
+//! `NOTE LANE WORDS`, `SEND FROM TO QUEUE LABEL` and `FOLD LINE`, in any order.
 
 use diagram::{Diagram, Item, Lane, Mark, Note, Row, Tone};
 use std::alloc::Global;
@@ -13,6 +13,7 @@ pub fn diagram(alloc: Global, title: &str, lanes: &[&str], rows: &[&str]) -> Res
         title: String::from_str(alloc, title)?,
         lanes: Vec::new(alloc),
         rows: Vec::new(alloc),
+        hidden: 0,
     };
     put_lanes(alloc, &mut diagram.lanes, lanes)?;
     put_rows(alloc, &mut diagram.rows, rows)?;
@@ -45,6 +46,8 @@ pub fn put_rows(alloc: Global, rows: &mut Vec<Row>, texts: &[&str]) -> Result<()
 fn put_row(alloc: Global, rows: &mut Vec<Row>, text: &str) -> Result<(), Fail> {
     let mut row = Row {
         words: Vec::new(alloc),
+        tooltip: String::new(alloc),
+        folded: Vec::new(alloc),
         took: None,
         marks: Vec::new(alloc),
         gave_up: Vec::new(alloc),
@@ -64,6 +67,10 @@ fn put_part(alloc: Global, row: &mut Row, part: &str) -> Result<(), Fail> {
         }
         Some(("GIVE-UP", queue)) => {
             row.gave_up.push(queue.parse::<u32>()?)?;
+            Ok(())
+        }
+        Some(("FOLD", line)) => {
+            row.folded.push(String::from_str(alloc, line)?)?;
             Ok(())
         }
         Some(("NOTE", note)) => put_note(alloc, &mut row.marks, note),
@@ -90,6 +97,7 @@ fn put_note(alloc: Global, marks: &mut Vec<Mark>, text: &str) -> Result<(), Fail
         lane: lane.parse::<usize>()?,
         tone,
         words: String::from_str(alloc, words)?,
+        tooltip: String::new(alloc),
     }))?;
     Ok(())
 }

@@ -74,6 +74,13 @@ const DRAWINGS: &[(&[&str], &str, usize)] = &[
         ">abcdefghijklmnopq\u{2026} (on its way)<",
         1,
     ),
+    // Folded lines stand as their number, and one line as itself.
+    (
+        &["FOLD spawn a@h p;FOLD show"],
+        ">2 lines<title>spawn a@h p&#10;show</title></text>",
+        1,
+    ),
+    (&["FOLD show"], ">show</text>", 1),
     // A long word is cut short, and stands in the tooltip.
     (
         &["send p q 123456789012345678901234567890"],
@@ -82,8 +89,10 @@ const DRAWINGS: &[(&[&str], &str, usize)] = &[
     ),
 ];
 
-fn drawing(alloc: Global, rows: &[&str]) -> Result<String, Fail> {
-    let it = diagram(alloc, "Two nodes", &["a@h", "b@h"], rows)?;
+// Returns the drawing of two lanes and of these rows, of which the first so many are hidden.
+fn drawing(alloc: Global, rows: &[&str], hidden: usize) -> Result<String, Fail> {
+    let mut it = diagram(alloc, "Two nodes", &["a@h", "b@h"], rows)?;
+    it.hidden = hidden;
     let mut out = String::new(alloc);
     put_picture(alloc, &mut out, &it)?;
     Ok(out)
@@ -92,8 +101,38 @@ fn drawing(alloc: Global, rows: &[&str]) -> Result<String, Fail> {
 #[test]
 fn drawings_have_their_parts(rt: HostRuntime) -> Result<(), Fail> {
     for (rows, part, times) in DRAWINGS {
-        let found = drawing(rt.alloc(), rows)?.as_str().matches(*part).count();
+        let drawing = drawing(rt.alloc(), rows, 0)?;
+        let found = drawing.as_str().matches(*part).count();
         assert_eq!(rt; found, *times, "{part:?} of {rows:?}");
+    }
+    Ok(())
+}
+
+/// A row that sends an item, one that takes it, and one behind them.
+const SENT_AND_TAKEN: &[&str] = &["link p q;SEND 0 1 0 LINK", "deliver;TAKE 0", "show"];
+
+/// The number of hidden rows, and a text with how often the drawing has it.
+const HIDDEN: &[(usize, &str, usize)] = &[
+    (0, ">link p q<", 1),
+    (0, ">sent before<", 0),
+    // The item comes from the upper edge.
+    (1, ">link p q<", 0),
+    (1, ">sent before<", 1),
+    (1, "<line class=\"sent\"", 1),
+    // It was taken above.
+    (2, "<line class=\"sent\"", 0),
+    (2, ">sent before<", 0),
+    (2, ">show<", 1),
+    (3, ">show<", 0),
+    (3, ">a@h<", 1),
+];
+
+#[test]
+fn rows_are_hidden(rt: HostRuntime) -> Result<(), Fail> {
+    for (hidden, part, times) in HIDDEN {
+        let drawing = drawing(rt.alloc(), SENT_AND_TAKEN, *hidden)?;
+        let found = drawing.as_str().matches(*part).count();
+        assert_eq!(rt; found, *times, "{part:?} behind {hidden} rows");
     }
     Ok(())
 }

@@ -8,7 +8,7 @@ use dist_model::Command;
 use erl_handshake::{Cookie, Profile, Setup};
 use erl_names::{NodeName, TrunkId};
 use erl_term::Refusal;
-use run_diagrams::Recorder;
+use run_diagrams::{LineRange, Recorder};
 use std::alloc::Global;
 use std::test::Fail;
 use world_core::{NodeEvent, World};
@@ -155,7 +155,7 @@ fn told(alloc: Global, diagram: &Diagram) -> Result<String, Fail> {
 
 fn recorded(alloc: Global, story: &[&str]) -> Result<String, Fail> {
     let mut world = opened(alloc)?;
-    let mut recorder = Recorder::new(alloc, "Two nodes")?;
+    let mut recorder = Recorder::new(alloc, "Two nodes", LineRange::all())?;
     recorder.add_node(alloc, "a@h")?;
     recorder.add_node(alloc, "b@h")?;
     play(alloc, &mut world, &mut recorder, story)?;
@@ -175,8 +175,9 @@ fn runs_are_recorded(rt: HostRuntime) -> Result<(), Fail> {
 #[test]
 fn many_rows(rt: HostRuntime) -> Result<(), Fail> {
     let alloc = rt.alloc();
-    let mut recorder = Recorder::new(alloc, "many")?;
+    let mut recorder = Recorder::new(alloc, "many", LineRange::all())?;
     for _ in 0..10_003 {
+        recorder.say(alloc, "local a@h")?;
         recorder.refused(alloc, Refusal::NothingThere)?;
     }
     let rows = recorder.finish(alloc)?.rows;

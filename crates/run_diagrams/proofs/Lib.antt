@@ -1,1 +1,2 @@
 pub mod MarksAdded
+mod FoldedRows

@@ -13,6 +13,7 @@ use Rattle.run_diagrams.specs.Numbers.{AreApart}
 use Rattle.run_diagrams.specs.Recording.{Adds, AreNumbers, IsRecorded, IsRowFor, KeepsNumbers}
 use Rattle.run_diagrams.specs.Recording.{queue_in, queues_of, way_in, ways_of, with_row}
 use Rattle.run_diagrams.specs.declared.queues.Way.{Way}
+use Rattle.run_diagrams.specs.declared.scope.Scope.{Scope}
 
 pub queues_behind : (marks others : List Mark) → queues_of (marks ++ others) ≡ queues_of marks ++ queues_of others
 queues_behind [] others = refl
@@ -80,11 +81,12 @@ ways_next (x ∷ xs) (suc i) effect lt e =
     rw k (ap (λ w. way_in x ++ w) (ways_next xs i effect (omega arith) e)
     ∙ sym (append_assoc (way_in x) (ways_of (take i xs)) (way_in effect)))
 
-pub recorded_row : (node : Name) (trunk : Option TrunkId) (came : Result (Report Framed) Refusal) (old between new : List Row)
-    (ways all : List Way) (row : Row)
-    → IsRowFor node trunk came ways row → between ≡ old → all ≡ ways → new ≡ with_row between row → IsRecorded node trunk came old new all
-recorded_row node trunk came old between new ways all row is same kept behind = record {
+pub recorded_row : (node : Name) (trunk : Option TrunkId) (came : Result (Report Framed) Refusal) (before scope : Scope)
+    (old between new : List Row) (ways all : List Way) (row : Row)
+    → IsRowFor node trunk came ways row → scope ≡ before → between ≡ old → all ≡ ways → new ≡ with_row scope between row
+    → IsRecorded node trunk came before old new all
+recorded_row node trunk came before scope old between new ways all row is here same kept behind = record {
   row = row;
-  behind = behind ∙ ap (λ rows. with_row rows row) same;
+  behind = behind ∙ ap (λ s. with_row s between row) here ∙ ap (λ rows. with_row before rows row) same;
   is = subst (λ (w : List Way). IsRowFor node trunk came w row) (sym kept) is;
 }

@@ -1,2 +1,4 @@
 pub mod Numbers
 pub mod Recording
+pub mod Folding
+pub mod Scope

@@ -1,5 +1,5 @@
 -- What of an event stands in the row that is made of it: each item that it sent, on the queue of its way, and whether the row takes one.
-use Rattle.std.specs.Prelude.{◌≡◌, ℕ, Bool, true, false, ◌==◌, ◌&&◌, ◌||◌, not, nat_lt, if◌then◌else◌, List}
+use Rattle.std.specs.Prelude.{◌≡◌, ℕ, Bool, true, false, ◌==◌, ◌&&◌, ◌||◌, nat_lt, if◌then◌else◌, List}
 use Rattle.std.specs.Prelude.{[], ◌∷◌, ◌++◌, length, Option, None, Some, is_none, Result, Ok, Err}
 use Rattle.std.specs.List.{flat_map}
 use Rattle.diagram.specs.declared.rows.Diagram.{Diagram}
@@ -15,6 +15,8 @@ use Rattle.erl_names.specs.declared.trunk.TrunkId.{TrunkId}
 use Rattle.erl_term.specs.declared.refusal.Refusal.{Refusal}
 use Rattle.node_frames.specs.Frames.{Framed}
 use Rattle.run_diagrams.specs.Numbers.{IsNumber, way_of}
+use Rattle.run_diagrams.specs.Scope.{has_room}
+use Rattle.run_diagrams.specs.declared.scope.Scope.{Scope}
 use Rattle.run_diagrams.specs.declared.queues.Way.{Way}
 use Rattle.run_diagrams.specs.declared.recorder.Recorder.{Recorder}
 
@@ -72,22 +74,23 @@ IsRowFor node trunk (Err why) all row = IsIdle row
 
 -- ---- the rows
 
--- nothing is to be seen in it
-abbrev pub is_blank : Row → Bool
-is_blank row = (length row.words.items == 0) && (length row.marks.items == 0) && is_none row.took && (length row.gave_up.items == 0)
+-- nothing happens in it: it shows the words of one line at most
+abbrev pub is_still : Row → Bool
+is_still row =
+    nat_lt (length row.words.items) 2 && (length row.marks.items == 0) && is_none row.took && (length row.gave_up.items == 0)
 
--- a diagram has 10,000 rows at most
-abbrev pub is_full : List Row → Bool
-is_full rows = not (nat_lt (length rows) 10000)
+-- a row more, if there is room
+abbrev pub with_one : Scope → List Row → Row → List Row
+with_one scope rows row = if has_room scope (length rows) then rows ++ row ∷ [] else rows
 
-abbrev pub with_row : List Row → Row → List Row
-with_row rows row = if is_blank row || is_full rows then rows else rows ++ row ∷ []
+abbrev pub with_row : Scope → List Row → Row → List Row
+with_row scope rows row = if is_still row then rows else with_one scope rows row
 
--- an event has a row of its own
-pub record IsRecorded (node : Name) (trunk : Option TrunkId) (came : Result (Report Framed) Refusal) (old new : List Row)
-    (all : List Way) : Type 0 where
+-- an event has a row of its own, unless nothing is to be seen of it
+pub record IsRecorded (node : Name) (trunk : Option TrunkId) (came : Result (Report Framed) Refusal) (scope : Scope)
+    (old new : List Row) (all : List Way) : Type 0 where
   pub row : Row
-  pub behind : new ≡ with_row old row
+  pub behind : new ≡ with_row scope old row
   pub is : IsRowFor node trunk came all row
 
 -- ---- the end of a recording

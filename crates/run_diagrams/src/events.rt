@@ -5,7 +5,7 @@ ghost use Rattle.run_diagrams.specs.Numbers.{AreApart, way_of};
 ghost use Rattle.run_diagrams.specs.Recording.{Adds, IsRecorded, IsRowFor, IsRowOf, IsTaken, KeepsNumbers, queues_of, taken, took_on, way_in, ways_of};
 
 use crate::labels::put_label;
-use crate::names::ProcessNames;
+use crate::names::ScriptNames;
 use crate::notes::{Words, lost, of_answer, of_effect};
 use crate::queues::Ways;
 use crate::recorder::{Recorder, place_of};
@@ -24,7 +24,7 @@ struct Spot<'a> {
     node: &'a str,
     lane: usize,
     lanes: &'a [Lane],
-    names: &'a ProcessNames,
+    names: &'a ScriptNames,
 }
 
 // The role of the node at the other end of a connection.
@@ -36,16 +36,36 @@ fn role_beyond(trunk: &TrunkId, node: &str) -> Role {
     }
 }
 
-// What an item is called that a node sends, and its bytes in hex.
+// Appends the bytes of an item in hex, behind its name without names of the script if that differs.
+fn put_tooltip(
+    alloc: Global,
+    out: &mut String,
+    label: &str,
+    role: Role,
+    bytes: &[u8],
+) -> Result<(), AllocError> {
+    let mut full = String::new(alloc);
+    put_label(alloc, &mut full, &ScriptNames::new(alloc), role, bytes)?;
+    if full.as_str() != label {
+        out.push_str(full.as_str())?;
+        out.push_str("\n")?;
+    }
+    let hex = hex::encode_upper(alloc, bytes)?;
+    out.push_str(hex.as_str())
+}
+
+// Returns the name of an item that a node sends, and its tooltip.
 fn named(
     alloc: Global,
     spot: Spot,
     trunk: &TrunkId,
     bytes: &[u8],
 ) -> Result<(String, String), AllocError> {
+    let role = role_beyond(trunk, spot.node);
     let mut label = String::new(alloc);
-    put_label(alloc, &mut label, role_beyond(trunk, spot.node), bytes)?;
-    let tooltip = hex::encode_upper(alloc, bytes)?;
+    put_label(alloc, &mut label, spot.names, role, bytes)?;
+    let mut tooltip = String::new(alloc);
+    put_tooltip(alloc, &mut tooltip, label.as_str(), role, bytes)?;
     Ok((label, tooltip))
 }
 
@@ -230,7 +250,7 @@ fn put_report(
     ensures kept { KeepsNumbers ways.old.ways.items ways.new.ways.items }
     ensures apart { AreApart ways.old.ways.items → AreApart ways.new.ways.items }
 {
-    put_reply(alloc, row, spot.node, &report.answer)?;
+    put_reply(alloc, row, spot.names, spot.node, &report.answer)?;
     put_connection(alloc, ways, row, spot, trunk, &report.answer)?;
     put_words(
         row,
@@ -252,6 +272,7 @@ impl Recorder {
     ) -> Result<Row, AllocError>
         ensures row { IfOk result (IsRowFor node.now (option_copied trunk.entry) came.now self.new.ways.ways.items) }
         ensures rows { self.new.diagram.rows.items ≡ self.old.diagram.rows.items }
+        ensures scope { self.new.scope ≡ self.old.scope }
         ensures kept { KeepsNumbers self.old.ways.ways.items self.new.ways.ways.items }
         ensures apart { AreApart self.old.ways.ways.items → AreApart self.new.ways.ways.items }
     {
@@ -285,7 +306,8 @@ impl Recorder {
         trunk: Option<&TrunkId>,
         came: &Result<Report<Frame>, Refusal>,
     ) -> Result<(), AllocError>
-        ensures row { OnOk result (IsRecorded node.now (option_copied trunk.entry) came.now self.old.diagram.rows.items self.new.diagram.rows.items self.new.ways.ways.items) }
+        ensures row { OnOk result (IsRecorded node.now (option_copied trunk.entry) came.now self.old.scope self.old.diagram.rows.items self.new.diagram.rows.items self.new.ways.ways.items) }
+        ensures scope { self.new.scope ≡ self.old.scope }
         ensures kept { KeepsNumbers self.old.ways.ways.items self.new.ways.ways.items }
         ensures apart { AreApart self.old.ways.ways.items → AreApart self.new.ways.ways.items }
     {

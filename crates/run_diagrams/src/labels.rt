@@ -1,36 +1,42 @@
 //! What an item is called that travels, in the standard's words. (ERTS User's Guide, Distribution Protocol.)
 
+use crate::names::{ScriptNames, put_named};
 use erl_control::{ItemRef, SignalRef, frame_at};
 use erl_handshake::{Role, ShakeMsg, read};
 use erl_term::{Refusal, TermRef};
-use script_terms::put_term;
 use std::alloc::{AllocError, Global};
 
 fn put_reason(
     alloc: Global,
     out: &mut String,
+    names: &ScriptNames,
     name: &str,
     reason: &TermRef,
 ) -> Result<(), AllocError> {
     out.push_str(name)?;
     out.push_str(" ")?;
     let reason = reason.to_term(alloc)?;
-    put_term(out, &reason)
+    put_named(out, names, &reason)
 }
 
-fn put_signal(alloc: Global, out: &mut String, signal: &SignalRef) -> Result<(), AllocError> {
+fn put_signal(
+    alloc: Global,
+    out: &mut String,
+    names: &ScriptNames,
+    signal: &SignalRef,
+) -> Result<(), AllocError> {
     match signal {
         SignalRef::Link { .. } => out.push_str("LINK"),
         SignalRef::Send { .. } => out.push_str("SEND"),
         SignalRef::RegSend { .. } => out.push_str("REG_SEND"),
-        SignalRef::Exit { reason, .. } => put_reason(alloc, out, "EXIT", reason),
-        SignalRef::Exit2 { reason, .. } => put_reason(alloc, out, "EXIT2", reason),
+        SignalRef::Exit { reason, .. } => put_reason(alloc, out, names, "EXIT", reason),
+        SignalRef::Exit2 { reason, .. } => put_reason(alloc, out, names, "EXIT2", reason),
         SignalRef::Monitor { .. } | SignalRef::MonitorName { .. } => out.push_str("MONITOR_P"),
         SignalRef::Demonitor { .. } | SignalRef::DemonitorName { .. } => {
             out.push_str("DEMONITOR_P")
         }
         SignalRef::MonitorExit { reason, .. } | SignalRef::MonitorNameExit { reason, .. } => {
-            put_reason(alloc, out, "MONITOR_P_EXIT", reason)
+            put_reason(alloc, out, names, "MONITOR_P_EXIT", reason)
         }
         SignalRef::UnlinkId { id, .. } => write!(out, "UNLINK_ID {id}"),
         SignalRef::UnlinkIdAck { id, .. } => write!(out, "UNLINK_ID_ACK {id}"),
@@ -61,18 +67,20 @@ fn put_message(
     }
 }
 
-/// Appends what an item is called, from its bytes and the role of the node that it is sent to.
+/// Appends what an item is called, from its bytes and the role of the node that it is sent to. Names stand in
+/// place of processes and references.
 ///
 /// # Errors
 /// Where memory is wanting.
 pub(crate) fn put_label(
     alloc: Global,
     out: &mut String,
+    names: &ScriptNames,
     role: Role,
     bytes: &[u8],
 ) -> Result<(), AllocError> {
     match frame_at(bytes) {
-        Ok(Some((ItemRef::Signal(signal), _))) => put_signal(alloc, out, &signal),
+        Ok(Some((ItemRef::Signal(signal), _))) => put_signal(alloc, out, names, &signal),
         Ok(Some((ItemRef::Tick, _))) => out.push_str("tick"),
         _ => put_message(alloc, out, role, bytes),
     }

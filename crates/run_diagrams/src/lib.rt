@@ -13,6 +13,9 @@ mod names;
 mod notes;
 mod queues;
 mod recorder;
+mod replies;
 mod row;
+mod scope;
 
 pub use recorder::Recorder;
+pub use scope::LineRange;

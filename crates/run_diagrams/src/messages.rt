@@ -1,6 +1,6 @@
 //! What a message in a mailbox is called.
 
-use crate::names::ProcessNames;
+use crate::names::{ScriptNames, put_named};
 use erl_term::{Pid, Term};
 use script_terms::put_term;
 use std::alloc::AllocError;
@@ -74,7 +74,7 @@ fn news_in(message: &Term) -> Option<News<'_>> {
 }
 
 // Appends the name of a process, or the name by which it was monitored.
-fn put_object(out: &mut String, names: &ProcessNames, object: Object) -> Result<(), AllocError> {
+fn put_object(out: &mut String, names: &ScriptNames, object: Object) -> Result<(), AllocError> {
     match object {
         Object::Process(process) => names.put(out, process),
         Object::Named(named) => put_term(out, named),
@@ -87,7 +87,7 @@ fn put_object(out: &mut String, names: &ProcessNames, object: Object) -> Result<
 /// Where memory is wanting.
 pub(crate) fn put_message(
     out: &mut String,
-    names: &ProcessNames,
+    names: &ScriptNames,
     message: &Term,
 ) -> Result<(), AllocError> {
     match news_in(message) {
@@ -95,11 +95,11 @@ pub(crate) fn put_message(
             out.push_str(news.tag)?;
             put_object(out, names, news.object)?;
             out.push_str(": ")?;
-            put_term(out, news.reason)
+            put_named(out, names, news.reason)
         }
         None => {
             out.push_str(" gets ")?;
-            put_term(out, message)
+            put_named(out, names, message)
         }
     }
 }

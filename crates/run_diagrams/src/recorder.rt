@@ -1,27 +1,28 @@
 //! The recorder of a run.
 
-ghost use Rattle.std.specs.Prelude.{◌≡◌, [], None, IfOk, OnOk, nat_lt};
-ghost use Rattle.run_diagrams.specs.Recording.{IsPictureOf, IsShown, is_full, with_row};
+ghost use Rattle.std.specs.Prelude.{◌≡◌, [], None, IfOk, OnOk, length, nat_lt, true};
+ghost use Rattle.run_diagrams.specs.Folding.{KeepsArrows};
+ghost use Rattle.run_diagrams.specs.Recording.{IsPictureOf, IsShown, is_still, with_one, with_row};
+ghost use Rattle.run_diagrams.specs.Scope.{has_room, hidden_at, reached};
 
-use crate::names::ProcessNames;
+use crate::names::ScriptNames;
 use crate::notes::{Words, of_end};
 use crate::queues::Ways;
-use crate::row::{empty_row, is_blank, put_refusal, put_words};
+use crate::row::{empty_row, is_still, put_folded, put_refusal, put_words};
+use crate::scope::{LineRange, Scope};
 use diagram::{Diagram, Lane, Row, Tone};
-use erl_term::{Pid, Refusal};
+use erl_term::{Pid, Reference, Refusal};
 use link_core::End;
 use script_terms::put_pid;
 use std::alloc::{AllocError, Global};
-
-/// The most rows of a diagram. Those behind them are counted.
-const MOST_ROWS: usize = 10_000;
 
 /// A run so far, as a diagram: a lane for each node, and a row for each event.
 #[derive(Drop)]
 pub struct Recorder {
     pub(crate) diagram: Diagram,
     pub(crate) ways: Ways,
-    pub(crate) names: ProcessNames,
+    pub(crate) names: ScriptNames,
+    pub(crate) scope: Scope,
     /// The words at the left of the next row.
     words: Vec<String>,
     /// The number of rows that had no room.
@@ -51,11 +52,11 @@ fn put_left_out(alloc: Global, rows: &mut Vec<Row>, left_out: u64) -> Result<(),
 }
 
 impl Recorder {
-    /// Creates a recorder with no rows.
+    /// Creates a recorder with no rows. It draws those of these lines.
     ///
     /// # Errors
     /// [`AllocError`] if there is no memory for the title.
-    pub fn new(alloc: Global, title: &str) -> Result<Recorder, AllocError>
+    pub fn new(alloc: Global, title: &str, lines: LineRange) -> Result<Recorder, AllocError>
         ensures rows { IfOk result (λ recorder. recorder.diagram.rows.items ≡ []) }
         ensures counted { IfOk result (λ recorder. recorder.left_out ≡ 0) }
     {
@@ -64,9 +65,11 @@ impl Recorder {
                 title: String::from_str(alloc, title)?,
                 lanes: Vec::new(alloc),
                 rows: Vec::new(alloc),
+                hidden: 0,
             },
             ways: Ways::new(alloc),
-            names: ProcessNames::new(alloc),
+            names: ScriptNames::new(alloc),
+            scope: Scope::new(lines),
             words: Vec::new(alloc),
             left_out: 0,
         })
@@ -102,7 +105,7 @@ impl Recorder {
         process: &Pid,
         name: &str,
     ) -> Result<(), AllocError> {
-        if self.is_full() {
+        if !self.has_room() {
             return Ok(());
         }
         self.names.add(alloc, process, name)?;
@@ -116,10 +119,40 @@ impl Recorder {
         Ok(())
     }
 
-    /// Adds a line to the words at the left of the next row.
+    /// Begins the line of a number, counted from 1: later events are those of this line.
+    pub fn reach(&mut self, line: u64)
+        ensures scope { self.new.scope ≡ reached self.old.scope line (length self.old.diagram.rows.items) }
+        ensures rows { self.new.diagram.rows.items ≡ self.old.diagram.rows.items }
+    {
+        self.scope = self.scope.reached(line, self.diagram.rows.len());
+    }
+
+    /// Gives a name to a reference. It stands in place of the reference in terms.
+    pub fn add_reference(
+        &mut self,
+        alloc: Global,
+        reference: &Reference,
+        name: &str,
+    ) -> Result<(), AllocError> {
+        if !self.has_room() {
+            return Ok(());
+        }
+        self.names.add_reference(alloc, reference, name)
+    }
+
+    /// Adds a line to the words at the left of the next row, if rows are drawn.
     pub fn say(&mut self, alloc: Global, text: &str) -> Result<(), AllocError> {
+        if self.scope.is_before() {
+            return Ok(());
+        }
         self.words.push(String::from_str(alloc, text)?)?;
         Ok(())
+    }
+
+    /// Begins the line of a number, and adds its text to the words at the left of the next row.
+    pub fn say_line(&mut self, alloc: Global, line: u64, text: &str) -> Result<(), AllocError> {
+        self.reach(line);
+        self.say(alloc, text)
     }
 
     /// Drops the words that were to stand at the left of the next row.
@@ -133,7 +166,24 @@ impl Recorder {
             return Ok(());
         }
         let row = self.begin(alloc);
-        self.end(row)
+        self.put(row)
+    }
+
+    /// Folds the words that still wait for a row: they stand with those of the lines right before at which
+    /// nothing happened either.
+    pub fn fold(&mut self, alloc: Global) -> Result<(), AllocError>
+        ensures { OnOk result (KeepsArrows self.old.diagram.rows.items self.new.diagram.rows.items) }
+    {
+        if self.words.is_empty() {
+            return Ok(());
+        }
+        let lines = std::mem::replace(&mut self.words, Vec::new(alloc));
+        if !self.has_room() {
+            self.left_out = self.left_out.saturating_add(1);
+            drop(lines);
+            return Ok(());
+        }
+        put_folded(alloc, &mut self.diagram.rows, lines)
     }
 
     /// Returns a row with the words that stand at its left.
@@ -142,43 +192,63 @@ impl Recorder {
         ensures marks { result.marks.items ≡ [] }
         ensures rows { self.new.diagram.rows.items ≡ self.old.diagram.rows.items }
         ensures ways { self.new.ways.ways.items ≡ self.old.ways.ways.items }
+        ensures scope { self.new.scope ≡ self.old.scope }
     {
         let words = std::mem::replace(&mut self.words, Vec::new(alloc));
         empty_row(alloc, words)
     }
 
-    // Returns true if no row has room any more.
-    fn is_full(&self) -> bool
-        ensures { result ≡ is_full self.now.diagram.rows.items }
+    // Returns true if there is room for another row.
+    fn has_room(&self) -> bool
+        ensures { result ≡ has_room self.now.scope (length self.now.diagram.rows.items) }
     {
-        self.diagram.rows.len() >= MOST_ROWS
+        self.scope.has_room(self.diagram.rows.len())
     }
 
-    /// Adds the row to the diagram, if it shows something and there is room. Else counts or drops it.
-    pub(crate) fn end(&mut self, row: Row) -> Result<(), AllocError>
-        ensures rows { OnOk result (self.new.diagram.rows.items ≡ with_row self.old.diagram.rows.items row) }
+    // Adds the row to the diagram if there is room, and else counts it.
+    fn put(&mut self, row: Row) -> Result<(), AllocError>
+        ensures rows { OnOk result (self.new.diagram.rows.items ≡ with_one self.old.scope self.old.diagram.rows.items row) }
         ensures ways { self.new.ways.ways.items ≡ self.old.ways.ways.items }
+        ensures scope { self.new.scope ≡ self.old.scope }
     {
-        if is_blank(&row) {
-            drop(row);
-        } else if self.is_full() {
+        if self.has_room() {
+            self.diagram.rows.push(row)?;
+        } else {
             self.left_out = self.left_out.saturating_add(1);
             drop(row);
-        } else {
-            self.diagram.rows.push(row)?;
         }
         Ok(())
     }
 
-    /// Returns the diagram of the recorded rows. Where rows had no room, a last one says how many.
+    /// Adds the row to the diagram, if something happens in it and there is room. If nothing happens, its
+    /// words wait for the next row.
+    pub(crate) fn end(&mut self, row: Row) -> Result<(), AllocError>
+        ensures rows { OnOk result (self.new.diagram.rows.items ≡ with_row self.old.scope self.old.diagram.rows.items row) }
+        ensures words { is_still row ≡ true → self.new.words.items ≡ row.words.items }
+        ensures ways { self.new.ways.ways.items ≡ self.old.ways.ways.items }
+        ensures scope { self.new.scope ≡ self.old.scope }
+    {
+        if !is_still(&row) {
+            return self.put(row);
+        }
+        let Row { words, .. } = row;
+        self.words = words;
+        Ok(())
+    }
+
+    /// Returns the diagram of the recorded rows, and counts those that aren't drawn. Where rows had no room, or
+    /// are of lines behind, a last one says how many.
     pub fn finish(self, alloc: Global) -> Result<Diagram, AllocError>
         ensures rows { IfOk result (λ diagram. IsPictureOf self diagram) }
+        ensures hidden { IfOk result (λ diagram. diagram.hidden ≡ hidden_at self.scope (length self.diagram.rows.items)) }
     {
         let Recorder {
             mut diagram,
             left_out,
+            scope,
             ..
         } = self;
+        diagram.hidden = scope.hidden_at(diagram.rows.len());
         put_left_out(alloc, &mut diagram.rows, left_out)?;
         Ok(diagram)
     }
@@ -221,11 +291,8 @@ impl Recorder {
         text: &str,
     ) -> Result<(), AllocError> {
         let mut row = self.begin(alloc);
-        let words = Some(Words {
-            tone,
-            words: String::from_str(alloc, text)?,
-        });
-        put_words(&mut row, self.lane_of(node), words)?;
+        let words = Words::whole(alloc, tone, String::from_str(alloc, text)?);
+        put_words(&mut row, self.lane_of(node), Some(words))?;
         self.end(row)
     }
 }

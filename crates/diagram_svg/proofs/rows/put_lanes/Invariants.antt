@@ -2,5 +2,5 @@ use Rattle.std.proofs.Common.{string_bytes}
 use Rattle.diagram_svg.specs.Markup.{Appends}
 use Rattle.diagram_svg.proofs.rows.put_lanes.Given as goal
 
-abbrev pub invariant-loop-place : goal.invariant-loop-place
-invariant-loop-place l = Appends (string_bytes l.fn.out) (string_bytes l.out)
+abbrev pub invariant-loop-number : goal.invariant-loop-number
+invariant-loop-number l = Appends (string_bytes l.fn.out) (string_bytes l.out)
