@@ -3,6 +3,7 @@ pub mod Turns
 pub mod Connections
 pub mod Pairs
 pub mod Session
+pub mod Running
 pub mod Stands
 pub mod Touched
 pub mod Telling

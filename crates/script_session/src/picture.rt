@@ -8,7 +8,7 @@ use diagram::{Diagram, Tone};
 use dist_model::Report;
 use erl_names::TrunkId;
 use erl_term::{Pid, Refusal};
-use run_diagrams::Recorder;
+use run_diagrams::{LineRange, Recorder};
 use script_lines::Line;
 use script_terms::Named;
 use script_texts::put_route;
@@ -75,12 +75,14 @@ fn put_line(
         Line::Node { .. } => recorder.hush(),
         Line::Ends { first, second } => put_ends(alloc, recorder, world, first, second)?,
         Line::Route { node, peer } => put_routes(alloc, recorder, world, node, peer)?,
+        Line::Spawn { .. } | Line::Settle | Line::Show { .. } => recorder.fold(alloc)?,
+        Line::Monitors { .. } | Line::Travels { .. } | Line::Why { .. } => recorder.fold(alloc)?,
         _ => {}
     }
     recorder.rest(alloc)
 }
 
-// Records the name of a new process.
+// Records the name of a new process or monitor.
 fn put_names(
     alloc: Global,
     recorder: &mut Recorder,
@@ -89,6 +91,7 @@ fn put_names(
 ) -> Result<(), AllocError> {
     match made {
         Made::One(Named::Process(process)) => recorder.add_process(alloc, process, name),
+        Made::One(Named::Monitor(reference)) => recorder.add_reference(alloc, reference, name),
         Made::Pair => {
             recorder.add_process(alloc, &first_process(alloc, FIRST)?, "p")?;
             recorder.add_process(alloc, &first_process(alloc, SECOND)?, "q")
@@ -105,14 +108,14 @@ impl Picture {
         Picture { recorder: None }
     }
 
-    /// Begins to draw each later event.
+    /// Begins to draw each later event of these lines.
     ///
     /// # Errors
     /// [`AllocError`] if out of memory, as of each call below.
-    pub(crate) fn begin(&mut self, alloc: Global) -> Result<(), AllocError>
+    pub(crate) fn begin(&mut self, alloc: Global, lines: LineRange) -> Result<(), AllocError>
         ensures { OnOk result (IsDrawing self.new.recorder) }
     {
-        self.recorder = Some(Recorder::new(alloc, TITLE)?);
+        self.recorder = Some(Recorder::new(alloc, TITLE, lines)?);
         Ok(())
     }
 
@@ -123,14 +126,19 @@ impl Picture {
     {
         match self.recorder.take() {
             Some(recorder) => recorder.finish(alloc),
-            None => Recorder::new(alloc, TITLE)?.finish(alloc),
+            None => Recorder::new(alloc, TITLE, LineRange::all())?.finish(alloc),
         }
     }
 
-    /// Puts a line that is to run at the left of the next row.
-    pub(crate) fn say(&mut self, alloc: Global, line: &[u8]) -> Result<(), AllocError> {
+    /// Puts a line that is to run at the left of the next row. It is the line of this number, from 1.
+    pub(crate) fn say(
+        &mut self,
+        alloc: Global,
+        number: u64,
+        line: &[u8],
+    ) -> Result<(), AllocError> {
         match (&mut self.recorder, std::str::from_utf8(line)) {
-            (Some(recorder), Ok(text)) => recorder.say(alloc, text.trim()),
+            (Some(recorder), Ok(text)) => recorder.say_line(alloc, number, text.trim()),
             _ => Ok(()),
         }
     }
@@ -176,7 +184,7 @@ impl Picture {
         }
     }
 
-    /// Records a line that has run, and the name of the process that it made.
+    /// Records a line that has run, and the name of the process or the monitor that it made.
     pub(crate) fn ran(
         &mut self,
         alloc: Global,

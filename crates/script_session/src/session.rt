@@ -1,5 +1,6 @@
 //! The session of a script.
 ghost use Rattle.std.specs.Prelude.{◌≡◌, ◌+◌, ◌-◌, ◌<◌, ◌^◌, [], true, false, None, IfOk, OnOk, drop, string_bytes};
+ghost use Rattle.run_traces.specs.Breaks.{broken_by};
 ghost use Rattle.script_lines.specs.Replies.{is_met, reply_after};
 ghost use Rattle.script_lines.specs.Said.{said};
 ghost use Rattle.script_session.specs.Session.{State, binds, fresh_state, is_taken, may_come, new_name, plays, starts};
@@ -8,6 +9,7 @@ ghost use Rattle.script_session.specs.Stands.{Compares, IsOpening, IsStage, IsSe
 ghost use Rattle.script_session.specs.Telling.{IsDrawing, IsTaken};
 ghost use Rattle.script_terms.specs.Binding.{Knows, Look};
 ghost use Rattle.world_core.specs.Names.{names_of};
+ghost use Rattle.world_core.specs.Stands.{StandsFor};
 
 use crate::made::Made;
 use crate::pairs::{FIRST, SECOND, first_process};
@@ -15,6 +17,7 @@ use crate::playing::{is_taken, new_name, starts};
 use crate::stage::Stage;
 use crate::telling::Telling;
 use diagram::Diagram;
+use run_diagrams::LineRange;
 use run_traces::{Breaks, Trace};
 use script_lines::{Line, MayCome, Reason, Reply, expected, put_advice, read_line};
 use script_terms::{Named, Names};
@@ -66,7 +69,8 @@ fn carry_out(
     ensures played { (it : TheStage) (look : Look) → IsStage stage.old it → Knows names.now look → (starts (said line.entry) ≡ false → IsOpening it.world) →
         IfOk result (λ named. Plays (plays look (said line.entry) it) stage.new (string_bytes out.old) (string_bytes out.new) named.1) }
 {
-    stage.telling.picture.say(alloc, text)?;
+    let number = stage.telling.line;
+    stage.telling.picture.say(alloc, number, text)?;
     let name = new_name(alloc, line)?;
     let made = stage.play(alloc, names, line, out)?;
     stage
@@ -129,6 +133,50 @@ impl Session {
             reply: Reply::new(alloc),
             started: false,
         }
+    }
+
+    /// Returns a session that stands for the same state. It has memory of its own: a line of one changes
+    /// nothing of the other. It tells no events, and draws no picture.
+    ///
+    /// # Errors
+    /// [`AllocError`] if out of memory.
+    pub fn copy(&self, alloc: Global) -> Result<Session, AllocError>
+        ensures { (state : State) → IsSession self.now state → IfOk result (λ copy. IsSession copy state) }
+    {
+        Ok(Session {
+            stage: self.stage.copy(alloc)?,
+            names: self.names.copy(alloc)?,
+            reply: self.reply.copy(alloc)?,
+            started: self.started,
+        })
+    }
+
+    /// Returns the world after the lines that have run.
+    pub fn world(&self) -> &World
+        ensures { (state : State) → IsSession self.now state → StandsFor result.now state.stage.world }
+    {
+        &self.stage.world
+    }
+
+    /// Returns the next challenge of a handshake.
+    pub fn word(&self) -> u32
+        ensures { (state : State) → IsSession self.now state → result ≡ state.stage.word }
+    {
+        self.stage.word
+    }
+
+    /// Returns the faults by which connections have broken.
+    pub fn breaks(&self) -> &Breaks
+        ensures { (state : State) → IsSession self.now state → broken_by result.now ≡ state.stage.breaks }
+    {
+        &self.stage.breaks
+    }
+
+    /// Returns the processes and references that the lines have given names.
+    pub fn names(&self) -> &Names
+        ensures { (state : State) → IsSession self.now state → Knows result.now state.names }
+    {
+        &self.names
     }
 
     // Returns which of the lines may still come that stand at the beginning alone.
@@ -213,15 +261,15 @@ impl Session {
         self.stage.telling.is_on = true;
     }
 
-    /// Begins to draw a picture of each later event.
+    /// Begins to draw a picture of each later event of these lines.
     ///
     /// # Errors
     /// [`AllocError`] if out of memory.
-    pub fn draw_picture(&mut self, alloc: Global) -> Result<(), AllocError>
+    pub fn draw_picture(&mut self, alloc: Global, lines: LineRange) -> Result<(), AllocError>
         ensures state { (state : State) → IsSession self.old state → IsSession self.new state }
         ensures drawn { OnOk result (IsDrawing self.new.stage.telling.picture.recorder) }
     {
-        self.stage.telling.picture.begin(alloc)
+        self.stage.telling.picture.begin(alloc, lines)
     }
 
     /// Returns a diagram of the events since, an empty one if no picture is drawn, and draws no more.

@@ -58,6 +58,22 @@ fn put_came(out: &mut String, node: &str, came: &Answered) -> Result<(), AllocEr
 }
 
 impl Stage {
+    /// Returns a stage that stands for the same one. It tells no events, and draws no picture.
+    ///
+    /// # Errors
+    /// [`AllocError`] if out of memory.
+    pub(crate) fn copy(&self, alloc: Global) -> Result<Stage, AllocError>
+        ensures { (it : TheStage) → IsStage self.now it → IfOk result (λ copy. IsStage copy it) }
+    {
+        Ok(Stage {
+            world: self.world.copy(alloc)?,
+            word: self.word,
+            trace: self.trace,
+            breaks: self.breaks.copy(alloc)?,
+            telling: Telling::off(alloc),
+        })
+    }
+
     // Returns true if a connection is new to a node.
     fn is_new(&self, node: &Atom, trunk: &TrunkId) -> bool
         ensures { (it : TheStage) → IsStage self.now it → (word : ℕ) → result ≡ takes_word it.world (Arrive trunk.now node.now word) }
