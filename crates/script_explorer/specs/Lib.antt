@@ -1,0 +1,4 @@
+pub mod Moves
+pub mod Replays
+pub mod Texts
+pub mod Printed
