@@ -10,7 +10,7 @@ use clap::Error;
 use clap::error::ErrorKind;
 use script_core::{
     CommandLine, Form, FusedWriter, Machine, Options, Outcome, STANDARD_INPUT, Tally, put_result,
-    read_options, run_drawing, run_script, run_telling, run_threads,
+    read_options, run_drawing, run_exploring, run_script, run_telling, run_threads,
 };
 use std::alloc::Global;
 use std::fs;
@@ -33,7 +33,7 @@ fn run<M: Machine, R: Read, W: Write>(
     match options.form {
         Form::Text => run_script(alloc, reader, writer, options, advice),
         Form::Events => run_telling(alloc, reader, writer, options, advice),
-        Form::Picture => run_drawing(alloc, reader, writer, options, advice),
+        Form::Picture(lines) => run_drawing(alloc, reader, writer, options, lines, advice),
         Form::Threads => run_threads(rt, alloc, reader, writer, options, advice),
     }
 }
@@ -55,18 +55,41 @@ fn run_file<R: Input + Files + Machine, W: Write>(
     Ok(run(rt, alloc, &mut reader, writer, options, advice))
 }
 
+// Explores the script of a file, or of standard input for the path `-`. A fault of the file is an error.
+fn explore_file<R: Input + Files, W: Write>(
+    rt: &R,
+    alloc: Global,
+    path: &str,
+    writer: &mut W,
+    options: &Options,
+    most: u64,
+    advice: &mut String,
+) -> io::Result<Outcome> {
+    if path == STANDARD_INPUT {
+        let mut reader = rt.reader();
+        return Ok(run_exploring(alloc, &mut reader, writer, options.seed, most, advice));
+    }
+    let mut reader = fs::open(rt, path)?;
+    Ok(run_exploring(alloc, &mut reader, writer, options.seed, most, advice))
+}
+
 /// Runs one script, and returns the exit status. Writes nothing after a failed write.
 fn run_one<R: Input + Files + Print + Eprint + Machine>(
     rt: &R,
     alloc: Global,
     path: &str,
     options: &Options,
+    most: Option<u64>,
 ) -> u8 {
     let Ok(mut writer) = BufWriter::new(alloc, FusedWriter::new(io::writer(rt))) else {
         return Outcome::OutOfMemory.status();
     };
     let mut advice = String::new(alloc);
-    let outcome = match run_file(rt, alloc, path, &mut writer, options, &mut advice) {
+    let ran = match most {
+        Some(most) => explore_file(rt, alloc, path, &mut writer, options, most, &mut advice),
+        None => run_file(rt, alloc, path, &mut writer, options, &mut advice),
+    };
+    let outcome = match ran {
         Ok(outcome) => outcome,
         Err(fault) => {
             let _ = eprintln!(rt; "erldist: {path} can't be read: {fault}");
@@ -142,7 +165,7 @@ fn carry_out<R: Input + Files + Print + Eprint + Machine>(
         return check(rt, alloc, &line.files, &line.options);
     }
     match line.files.first() {
-        Some(path) => run_one(rt, alloc, path, &line.options),
+        Some(path) => run_one(rt, alloc, path, &line.options, line.explore),
         None => Outcome::Ran.status(),
     }
 }

@@ -2,7 +2,8 @@
 use Rattle.std.proofs.Common.{◌≡◌, ℕ, ◌+◌, Bool, true, false, cond, ltb, List, [], ◌∷◌, ◌++◌, length}
 use Rattle.std.proofs.Common.{Option, None, Some, Result, Ok, Err, refl, sym, ap, subst, ◌∙◌, arith}
 use Rattle.std.specs.Cmp.Lexicographic.{bytes_decides}
-use Rattle.script_core.specs.Expected.{AreMet, Expects, FirstUnmet, IsMet, LeadsTo, last_printed}
+use Rattle.script_core.specs.Expected.{AreMet, Expects, FirstUnmet, IsMet, last_printed}
+use Rattle.script_session.specs.Running.{LeadsTo}
 use Rattle.script_core.specs.Script.{AtBadLine, Run, TooManyLines, Verdict, Whole, runs_lines, runs_step, stops}
 use Rattle.script_lines.specs.Breaks.{last_line, last_of, later}
 use Rattle.script_lines.specs.Lines.{line_says}

@@ -5,3 +5,4 @@ pub mod LineLemmas
 pub mod KeptLemmas
 pub mod Merging
 pub mod Expectations
+pub mod ExploredLemmas

@@ -3,14 +3,9 @@ use Rattle.std.specs.Prelude.{◌≡◌, ℕ, ◌+◌, List, [], ◌∷◌, ◌+
 use Rattle.script_lines.specs.Breaks.{last_line, later}
 use Rattle.script_lines.specs.Lines.{line_says}
 use Rattle.script_lines.specs.Said.{Expect}
-use Rattle.script_session.specs.Session.{State, Step, line_does, may_come}
+use Rattle.script_session.specs.Running.{LeadsTo}
+use Rattle.script_session.specs.Session.{State, may_come}
 use Rattle.script_terms.specs.Filling.{filled}
-
--- lines are run one after the other, and print these texts, one each
-abbrev pub LeadsTo : State → List (List ℕ) → (texts : List (List ℕ)) → State → Type 0
-LeadsTo state [] texts last = (texts ≡ []) × (last ≡ state)
-LeadsTo state (line ∷ lines) texts last =
-    (step : Step) × (more : List (List ℕ)) × (line_does state line ≡ Ok step) × (texts ≡ step.text ∷ more) × LeadsTo step.state lines more last
 
 -- of these texts the last line that isn't empty
 abbrev pub last_printed : List (List ℕ) → List ℕ

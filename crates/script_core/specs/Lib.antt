@@ -6,3 +6,4 @@ pub mod Kept
 pub mod Threaded
 pub mod Checking
 pub mod Expected
+pub mod Explored

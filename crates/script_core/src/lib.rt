@@ -2,7 +2,8 @@
 //!
 //! [`run_script`] reads a script, one command a line, and writes its output, over any reader and writer.
 //! [`run_telling`] writes a line of JSON for each event instead, and [`run_drawing`] a drawing of the run.
-//! [`run_threads`] gives each node of the script a thread. Their [`Outcome`] is the end of the script, with
+//! [`run_threads`] gives each node of the script a thread. [`run_exploring`] takes the blocks of a script in every
+//! order. Their [`Outcome`] is the end of the script, with
 //! the number of a bad line and its [`Reason`]. [`read_options`] reads the command line.
 //! [`FusedWriter`] ends the output at the first failed write. `script_session` defines the commands.
 //! [`every_script`] is the law that every script's run is safe. [`every_expectation`] is the law that a
@@ -10,17 +11,21 @@
 #![tactic(auto)]
 
 mod checking;
+mod exploring;
 mod laws;
 mod lines;
 mod near_misses;
 mod options;
+mod ranges;
 mod script;
 mod threads;
 mod writing;
 
 pub use checking::{Tally, put_result};
+pub use exploring::run_exploring;
 pub use laws::{every_expectation, every_script};
 pub use options::{CommandLine, Form, Options, STANDARD_INPUT, read_options};
+pub use run_diagrams::LineRange;
 pub use run_traces::Trace;
 pub use script::{Outcome, run_drawing, run_script, run_telling};
 pub use script_lines::Reason;

@@ -1,7 +1,9 @@
 //! The command line.
 use crate::near_misses::remedy_for;
+use crate::ranges::range_of;
 use clap::error::ErrorKind;
 use clap::{Arg, ArgAction, ArgMatches, Command, Error};
+use run_diagrams::LineRange;
 use run_traces::Trace;
 use std::alloc::{AllocError, Global};
 
@@ -12,8 +14,8 @@ pub enum Form {
     Text,
     /// A line of JSON for each event.
     Events,
-    /// A drawing in SVG of all that happens.
-    Picture,
+    /// A drawing in SVG of the events of these lines.
+    Picture(LineRange),
     /// The text that its commands print, at nodes that have a thread each.
     Threads,
 }
@@ -27,6 +29,8 @@ pub struct CommandLine<'a> {
     pub files: Vec<&'a str>,
     /// True if each script is run for its outcome alone.
     pub check: bool,
+    /// The most steps of a schedule, if the script is explored.
+    pub explore: Option<u64>,
 }
 
 /// The options of a script.
@@ -48,6 +52,17 @@ pub const STANDARD_INPUT: &str = "-";
 /// More files than one are for `--check` alone.
 const MANY_FILES: &str =
     "one FILE is run at a time: write '--check' before the files to run each for its outcome";
+
+/// More files than one are none for `--explore`.
+const MANY_EXPLORED: &str =
+    "one FILE is explored at a time: write '--explore=MOST FILE', or '--explore MOST FILE'";
+
+/// A number behind `--explore` is no file.
+const MOST_ALONE: &str =
+    "write '--explore=20' to explore standard input; './20' is a script's file of that name";
+
+/// The lines of a picture where none are given: all lines.
+const ALL_LINES: &str = "1-";
 
 /// The forms of a trace: items in hex, items in hex and in words, or events in JSON.
 const TRACES: &[&str] = &["hex", "text", "json"];
@@ -103,6 +118,10 @@ Commands of a script, one a line:
                      and connections, and the items in flight too
   expect WORDS       ends the script with status 7 unless the last line that was printed is WORDS; in them
                      $name is the process or the reference
+With --explore there are three lines more:
+  par                begins the blocks, behind the beginning of the script
+  and                parts two blocks; the steps of blocks, and all in flight, come in every order
+  end                ends the last block; the questions follow, whose replies are the outcome
 With --threads there is no pair, deliver, local, sweep, travels or why: nodes in threads take what comes
 by themselves.
 
@@ -110,8 +129,8 @@ Exit status: 0 the script ran; 2 wrong command line; 3 bad line; 4 no memory, or
 histories of nodes in threads don't merge; 6 reading or writing failed, or the script has more than
 1,048,576 lines; 7 an 'expect' isn't met, or with --check a script failed. docs/SCRIPTS.md tells the whole.";
 
-// Returns the command line's options and their help.
-fn command<'a>(alloc: Global) -> Result<Command<'a>, Error> {
+// Adds the options that choose the form of the output.
+fn with_forms<'a>(alloc: Global, command: Command<'a>) -> Result<Command<'a>, Error> {
     let trace = Arg::new(alloc, "trace")
         .long("trace")
         .value_name("text|json")
@@ -122,22 +141,26 @@ fn command<'a>(alloc: Global) -> Result<Command<'a>, Error> {
         .require_equals(true)
         .default_missing_value("hex")
         .value_parser(TRACES);
-    let picture = Arg::new(alloc, "picture")
-        .long("picture")
-        .help("Draw in SVG all that happens, in place of all else")
-        .action(ArgAction::SetTrue)
-        .conflicts_with("trace")?;
     let threads = Arg::new(alloc, "threads")
         .long("threads")
         .help("Give each node a thread of its own, and say at the end that their histories merge")
         .action(ArgAction::SetTrue)
         .conflicts_with("picture")?;
-    let seed = Arg::new(alloc, "seed")
-        .long("seed")
-        .value_name("N")
-        .help("The first challenge word of the handshakes")
-        .default_value("1")
-        .value_parser(clap::value_parser!(u32));
+    let picture = Arg::new(alloc, "picture")
+        .long("picture")
+        .value_name("LINES")
+        .help(
+            "Draw in SVG all that happens, in place of all else; with =10-40 the events of lines 10 to 40 alone",
+        )
+        .num_args(0..=1)
+        .require_equals(true)
+        .default_missing_value(ALL_LINES)
+        .conflicts_with("trace")?;
+    Ok(command.arg(trace)?.arg(threads)?.arg(picture)?)
+}
+
+// Adds the option by which scripts are run for their outcomes.
+fn with_check<'a>(alloc: Global, command: Command<'a>) -> Result<Command<'a>, Error> {
     let check = Arg::new(alloc, "check")
         .long("check")
         .help(
@@ -146,22 +169,53 @@ fn command<'a>(alloc: Global) -> Result<Command<'a>, Error> {
         .action(ArgAction::SetTrue)
         .conflicts_with("trace")?
         .conflicts_with("picture")?;
+    Ok(command.arg(check)?)
+}
+
+// Adds the option by which a script with blocks is explored.
+fn with_explore<'a>(alloc: Global, command: Command<'a>) -> Result<Command<'a>, Error> {
+    let explore = Arg::new(alloc, "explore")
+        .long("explore")
+        .value_name("MOST")
+        .help(
+            "Take the blocks of the script, and all that is in flight, in every order, up to MOST steps, by default 100; print each outcome and its shortest script",
+        )
+        .num_args(0..=1)
+        .require_equals(true)
+        .default_missing_value("100")
+        .value_parser(clap::value_parser!(u64))
+        .conflicts_with("trace")?
+        .conflicts_with("picture")?
+        .conflicts_with("threads")?
+        .conflicts_with("check")?;
+    Ok(command.arg(explore)?)
+}
+
+// Adds the seed and the files.
+fn with_files<'a>(alloc: Global, command: Command<'a>) -> Result<Command<'a>, Error> {
+    let seed = Arg::new(alloc, "seed")
+        .long("seed")
+        .value_name("N")
+        .help("The first challenge word of the handshakes")
+        .default_value("1")
+        .value_parser(clap::value_parser!(u32));
     let files = Arg::new(alloc, "FILE")
         .value_name("FILE")
         .help("The script; standard input if it is '-' or left out")
         .num_args(0..);
-    Ok(
-        Command::new(alloc, "erldist")
-            .about(ABOUT)
-            .version(VERSION)
-            .after_help(COMMANDS)
-            .arg(trace)?
-            .arg(threads)?
-            .arg(picture)?
-            .arg(check)?
-            .arg(seed)?
-            .arg(files)?,
-    )
+    Ok(command.arg(seed)?.arg(files)?)
+}
+
+// Returns the command line's options and their help.
+fn command<'a>(alloc: Global) -> Result<Command<'a>, Error> {
+    let command = Command::new(alloc, "erldist")
+        .about(ABOUT)
+        .version(VERSION)
+        .after_help(COMMANDS);
+    let command = with_forms(alloc, command)?;
+    let command = with_check(alloc, command)?;
+    let command = with_explore(alloc, command)?;
+    with_files(alloc, command)
 }
 
 // Returns the paths of the scripts: standard input if there is none.
@@ -176,6 +230,38 @@ fn files_of<'a>(alloc: Global, matches: &ArgMatches<'a>) -> Result<Vec<&'a str>,
     Ok(files)
 }
 
+// Returns true if a word has the number of steps behind `--explore`.
+fn has_most(words: &[String]) -> bool {
+    words
+        .iter()
+        .any(|word| word.as_str().starts_with("--explore="))
+}
+
+// Returns the most steps of a schedule, if the script is explored, or the reason why the files don't fit. Takes
+// the number from the files if it stands before the script's.
+fn most_of(
+    matches: &ArgMatches<'_>,
+    words: &[String],
+    files: &mut Vec<&str>,
+) -> Result<Option<u64>, &'static str> {
+    let Some(most) = matches.get_one::<u64>("explore") else {
+        return Ok(None);
+    };
+    let number = match files.first() {
+        Some(first) if !has_most(words) => first.parse::<u64>().ok(),
+        _ => None,
+    };
+    match (number, files.len()) {
+        (None, 1) => Ok(Some(most)),
+        (Some(_), 1) => Err(MOST_ALONE),
+        (Some(number), 2) => {
+            files.remove(0);
+            Ok(Some(number))
+        }
+        _ => Err(MANY_EXPLORED),
+    }
+}
+
 // Returns the form in which items are printed.
 fn trace_of(matches: &ArgMatches<'_>) -> Trace {
     match matches.get_str("trace") {
@@ -185,16 +271,24 @@ fn trace_of(matches: &ArgMatches<'_>) -> Trace {
     }
 }
 
+// Returns the lines that are drawn, if a picture is asked for, or the reason why they are none.
+fn lines_of(matches: &ArgMatches<'_>) -> Result<Option<LineRange>, &'static str> {
+    match matches.get_str("picture") {
+        Some(text) => Ok(Some(range_of(text)?)),
+        None => Ok(None),
+    }
+}
+
 // Returns the form of a script's output, or the reason why the options exclude each other.
 fn form_of(matches: &ArgMatches<'_>) -> Result<Form, &'static str> {
     let trace = matches.get_str("trace");
-    match (matches.get_flag("threads"), matches.get_flag("picture")) {
+    match (matches.get_flag("threads"), lines_of(matches)?) {
         (true, _) if trace == Some("json") => Err(THREADS_AND_EVENTS),
         (true, _) if trace == Some("text") => Err(THREADS_AND_WORDS),
         (true, _) => Ok(Form::Threads),
-        (false, true) => Ok(Form::Picture),
-        (false, false) if trace == Some("json") => Ok(Form::Events),
-        (false, false) => Ok(Form::Text),
+        (false, Some(lines)) => Ok(Form::Picture(lines)),
+        (false, None) if trace == Some("json") => Ok(Form::Events),
+        (false, None) => Ok(Form::Text),
     }
 }
 
@@ -212,7 +306,11 @@ pub fn read_options<'a>(alloc: Global, words: &'a [String]) -> Result<CommandLin
         Ok(form) => form,
         Err(why) => return Err(command.error(ErrorKind::ArgumentConflict, why)?),
     };
-    let files = files_of(alloc, &matches)?;
+    let mut files = files_of(alloc, &matches)?;
+    let explore = match most_of(&matches, words, &mut files) {
+        Ok(explore) => explore,
+        Err(why) => return Err(command.error(ErrorKind::TooManyValues, why)?),
+    };
     let check = matches.get_flag("check");
     if files.len() > 1 && !check {
         return Err(command.error(ErrorKind::TooManyValues, MANY_FILES)?);
@@ -225,5 +323,6 @@ pub fn read_options<'a>(alloc: Global, words: &'a [String]) -> Result<CommandLin
         },
         files,
         check,
+        explore,
     })
 }

@@ -15,6 +15,7 @@ ghost use Rattle.script_core.specs.Outcomes.{status_of, fault_at, Answers, Posit
 use crate::lines::Lines;
 use crate::options::Options;
 use diagram_svg::put_picture;
+use run_diagrams::LineRange;
 use script_lines::{LINE_LIMIT, Reason, split_line};
 use script_session::{Session, Stop};
 use std::alloc::{AllocError, Global};
@@ -126,7 +127,8 @@ pub fn run_telling<R: Read, W: Write>(
 }
 
 /// Runs the script that the reader gives, and writes in place of its output a drawing in SVG of all that
-/// happens. The outcome is a function of the script's bytes and the options, as of [`run_script`].
+/// happens at these lines. The outcome is a function of the script's bytes and the options, as of
+/// [`run_script`].
 ///
 /// The drawing is written at the end, behind a bad line too, or where reading has failed: then it is of the
 /// events until there. Where memory is wanting nothing is written.
@@ -135,6 +137,7 @@ pub fn run_drawing<R: Read, W: Write>(
     reader: &mut R,
     writer: &mut W,
     options: &Options,
+    lines: LineRange,
     advice: &mut String,
 ) -> Outcome
     ensures draws { Draws (W.contents writer.old) (W.contents writer.new) result }
@@ -142,7 +145,7 @@ pub fn run_drawing<R: Read, W: Write>(
 {
     let session = Session::new(alloc, options.trace, options.seed);
     let mut script = Script::new(alloc, session);
-    if script.session.draw_picture(alloc).is_err() {
+    if script.session.draw_picture(alloc, lines).is_err() {
         return Outcome::OutOfMemory;
     }
     let outcome = script.read_all(alloc, reader, &mut io::sink());
@@ -385,7 +388,7 @@ pub(crate) fn write_bytes<W: Write>(writer: &mut W, bytes: &[u8]) -> Result<(), 
 }
 
 /// The same, and flushes them.
-fn write_whole<W: Write>(writer: &mut W, bytes: &[u8]) -> Result<(), Outcome>
+pub(crate) fn write_whole<W: Write>(writer: &mut W, bytes: &[u8]) -> Result<(), Outcome>
     ensures ok { OnOk result (Appends (W.contents writer.old) (W.contents writer.new) bytes.now) }
     ensures err { IfErr result (λ outcome. (outcome ≡ Outcome.Failed) × AppendsFront bytes.now (W.contents writer.old) (W.contents writer.new)) }
 {
