@@ -88,13 +88,18 @@ judge() {
     [ -z "$wrong" ] || echo "$wrong"
 }
 
+# Tells if an example runs with --explore: then its script has blocks, which nothing else runs.
+is_explored() {
+    [ -f "$1.args" ] && grep -q -e --explore "$1.args"
+}
+
 # Tries each example: its output, its threads, its drawing.
 try_scripts() {
     local example base
     for example in examples/*.script examples/*.bash; do
         base=${example%.*}
         judge "$base" "$(wrong_in_example "$base")"
-        [ -f "$base.script" ] || continue
+        [ -f "$base.script" ] && ! is_explored "$base" || continue
         [ ! -f "$base.threads" ] || judge "$base --threads" "$(wrong_in_threads "$base")"
         judge "$base.svg" "$(wrong_in_drawing "$base")"
     done
@@ -241,6 +246,12 @@ try_streams() {
     "$program" < "$script" > /dev/full 2> "$room/stderr"
     status=$?
     judge "erldist > /dev/full" "$([ "$status" = 6 ] || echo "its status is $status, and not 6"; differs /dev/null "$room/stderr")"
+    "$program" --explore < examples/race.script > /dev/full 2> "$room/stderr"
+    status=$?
+    judge "erldist --explore > /dev/full" "$([ "$status" = 6 ] || echo "its status is $status, and not 6"; differs /dev/null "$room/stderr")"
+    "$program" --explore < examples > "$room/stdout" 2> "$room/stderr"
+    status=$?
+    judge "erldist --explore < a folder" "$([ "$status" = 6 ] || echo "its status is $status, and not 6"; cat "$room/stdout" "$room/stderr")"
     "$program" < examples > "$room/stdout" 2> "$room/stderr"
     status=$?
     judge "erldist < a folder" "$([ "$status" = 6 ] || echo "its status is $status, and not 6"; cat "$room/stdout" "$room/stderr")"
