@@ -1,5 +1,5 @@
 -- A script that was run to its end.
-use Rattle.std.proofs.Common.{◌≡◌, ℕ, ◌-◌, Bool, false, true, List, [], ◌∷◌, ◌++◌, Global, String, Vec, None, Option, Some, ap, append-nil, drop, is_some, length, map, refl, string_bytes, subst, sym, true≢false, ◌∙◌}
+use Rattle.std.proofs.Common.{◌≡◌, ℕ, ◌-◌, false, List, [], ◌∷◌, ◌++◌, Global, String, Vec, None, Option, Some, ap, append-nil, drop, is_some, length, map, refl, string_bytes, subst, sym, true≢false, ◌∙◌}
 use Rattle.std.proofs.lemmas.List.{drop-map, length-map}
 use Rattle.run_traces.specs.declared.trace.Trace.{Trace}
 use Rattle.script_explorer.proofs.Led.{bytes_of}

@@ -258,12 +258,12 @@ impl<'a> Plan<'a> {
     }
 
     /// Returns a step of a block. Both are told by their places, from 0.
-    pub fn step(&self, block: usize, place: usize) -> Option<&Step<'a>> {
+    pub(crate) fn step(&self, block: usize, place: usize) -> Option<&Step<'a>> {
         self.blocks.get(block)?.get(place)
     }
 
     /// Returns the line of a number, from 1, if it isn't left out.
-    pub fn line(&self, number: u64) -> Option<&'a [u8]> {
+    pub(crate) fn line(&self, number: u64) -> Option<&'a [u8]> {
         for block in &self.blocks {
             for step in block {
                 if let Some(text) = line_in(&step.lines, number) {
@@ -281,7 +281,7 @@ impl<'a> Plan<'a> {
     ///
     /// # Errors
     /// [`AllocError`] if out of memory.
-    pub fn starts(&self, alloc: Global) -> Result<Vec<usize>, AllocError> {
+    pub(crate) fn starts(&self, alloc: Global) -> Result<Vec<usize>, AllocError> {
         let mut taken = Vec::new(alloc);
         taken.resize(self.blocks.len(), 0)?;
         Ok(taken)
@@ -291,7 +291,7 @@ impl<'a> Plan<'a> {
     ///
     /// # Errors
     /// [`AllocError`] if out of memory.
-    pub fn names(&self, alloc: Global) -> Result<Vec<&'a str>, AllocError> {
+    pub(crate) fn names(&self, alloc: Global) -> Result<Vec<&'a str>, AllocError> {
         let mut names = Vec::new(alloc);
         for block in &self.blocks {
             for step in block {

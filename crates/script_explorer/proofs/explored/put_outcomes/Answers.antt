@@ -1,4 +1,4 @@
-use Rattle.std.proofs.Common.{◌≡◌, [], ◌∷◌, ◌++◌, List, ℕ, ap, append_assoc, append-nil, sym, ◌∙◌}
+use Rattle.std.proofs.Common.{[], ◌∷◌, ◌++◌, List, ℕ, ap, append_assoc, append-nil, sym, ◌∙◌}
 use Rattle.std.proofs.lemmas.List.Concat.{flat_map-append}
 use Rattle.script_explorer.specs.Printed.{Shown, shown_text, shown_texts}
 use Rattle.script_explorer.proofs.explored.put_outcomes.Goals as goal

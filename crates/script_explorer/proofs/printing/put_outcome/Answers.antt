@@ -1,4 +1,4 @@
-use Rattle.std.proofs.Common.{◌≡◌, ℕ, ◌++◌, List, String, Global, ap, append_assoc, map, string_bytes, sym, ◌∙◌}
+use Rattle.std.proofs.Common.{ℕ, ◌++◌, List, String, Global, ap, append_assoc, map, string_bytes, sym, ◌∙◌}
 use Rattle.std.specs.List.{flat_map}
 use Rattle.script_explorer.proofs.Whole.{last_texts, ran}
 use Rattle.script_explorer.specs.Printed.{Shown}

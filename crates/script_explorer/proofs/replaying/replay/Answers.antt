@@ -4,7 +4,7 @@ use Rattle.run_traces.specs.declared.trace.Trace.{Trace}
 use Rattle.script_explorer.proofs.Led.{bytes_of, led_more, one_more, parted, stopped}
 use Rattle.script_explorer.specs.Replays.{Ends}
 use Rattle.script_session.specs.Running.{LeadsTo}
-use Rattle.script_session.specs.Session.{State, fresh_state, line_does}
+use Rattle.script_session.specs.Session.{fresh_state, line_does}
 use Rattle.script_explorer.proofs.replaying.replay.Goals as goal
 
 pub loop-line-init : goal.loop-line-init
