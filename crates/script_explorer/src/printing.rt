@@ -74,6 +74,9 @@ pub(crate) fn put_unmet(
     }
     let mut unseen = String::new(alloc);
     let ran = replayed.session.line(alloc, last, &mut unseen);
+    if matches!(ran, Err(Stop::OutOfMemory)) {
+        return Err(Halt::OutOfMemory);
+    }
     if !is_unmet(&ran) {
         return Err(Halt::Unlike);
     }
