@@ -15,11 +15,11 @@ use world_core::{Node, World};
 pub(crate) enum Move {
     /// The next step of a block.
     Block(usize),
-    /// What comes next from a node to itself comes.
+    /// The next signal of a node to itself comes.
     Local(usize),
     /// A node clears away one record of a lost connection.
     Sweep(usize),
-    /// What comes next from a peer comes to a node.
+    /// The next item from a peer comes to a node.
     Deliver { node: usize, peer: usize },
 }
 
