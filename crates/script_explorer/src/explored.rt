@@ -81,7 +81,7 @@ fn put_broken(
     Ok(Some(broken.number))
 }
 
-// Returns the text of what was found.
+// Returns the text of an exploration.
 fn text_of(
     alloc: Global,
     seed: u32,

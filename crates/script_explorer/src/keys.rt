@@ -1,5 +1,5 @@
 //! The text by which states are told apart: all that can be observed, all that is in flight, and all that
-//! decides what comes of later steps.
+//! later steps depend on.
 ghost use Rattle.std.specs.Prelude.{◌≡◌, IfOk, string_bytes};
 ghost use Rattle.script_session.specs.Session.{State as TheState};
 ghost use Rattle.script_session.specs.Stands.{IsSession};

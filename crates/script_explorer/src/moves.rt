@@ -82,7 +82,7 @@ fn add_blocks(
     Ok(())
 }
 
-// Adds what comes next from each node to a node.
+// Adds the deliveries to a node from each node.
 fn add_deliveries(
     moves: &mut Vec<Move>,
     world: &World,
