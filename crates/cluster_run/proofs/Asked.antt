@@ -27,13 +27,13 @@ wanting last above e (inr h) = inr (inr h.0)
 
 module _ (act : Act) (book next : BookSeen) (seat after : Seat) where
   unapplied : (e : Refusal) → ((e ≡ Refusal.NothingThere) × IsUnready (event_of act) book)
-      ⊎ ((first : Option Item) × (sent : ℕ) × IsComing (event_of act) book.outlets first sent × IsWanting book.history.last sent e)
+      ⊎ ((first : Option Item) × (sent : ℕ) × IsComing (event_of act) seat.above book.outlets first sent × IsWanting book.history.last sent e)
       → IsCallRefusal e
   unapplied e (inl h) = absurd (never_unready act book h.1)
   unapplied e (inr h) = wanting book.history.last h.1 e h.3
 
   uncalled : (e : Refusal) → ((e ≡ Refusal.StrangeSeat) × (IsAtHome book seat → ⊥))
-      ⊎ (IsAtHome book seat × IsUnapplied (event_of act) book next e) → IsCallRefusal e
+      ⊎ (IsAtHome book seat × IsUnapplied (event_of act) seat.above book next e) → IsCallRefusal e
   uncalled e (inl h) = inl h.0
   uncalled e (inr h) = unapplied e h.1.why
 

@@ -272,6 +272,7 @@ impl<G: Gate + Send + Sync + Drop + 'static> Cluster<G> {
     pub fn seat(&self, node: usize) -> Result<Seat, Refusal>
         ensures node { IfOk result (λ seat. seat.node ≡ node) }
         ensures receipts { IfOk result (λ seat. seat.receipts.items ≡ []) }
+        ensures above { IfOk result (λ seat. seat.above ≡ 0) }
         ensures there { IfOk result (λ _. node < length self.now.nodes.items) }
         ensures err { IfErr result (λ e. (e ≡ NothingThere) × (length self.now.nodes.items ≤ node)) }
     {

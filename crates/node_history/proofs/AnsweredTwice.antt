@@ -155,11 +155,11 @@ pub err_is : (r : Result Told Refusal) (e : Refusal) → IsErrAnd r (λ x. x ≡
 err_is (Ok x) e h = absurd h
 err_is (Err x) e h = ap (λ y. Err y) h
 
-pub not_entered : (due : Outcome) (event : NodeEvent) (old new : History) (r : Result Told Refusal) (e : Refusal) → r ≡ Err e
+pub not_entered : (due : Outcome) (event : NodeEvent) (above : ℕ) (old new : History) (r : Result Told Refusal) (e : Refusal) → r ≡ Err e
     → new.node ≡ old.node → new.last ≡ old.last
-    → new.entries.items ≡ old.entries.items → IsWanting old.last 0 e → Tries due event 0 old new (placed r)
-not_entered due event old new r e is n l es w =
-    subst (λ x. Tries due event 0 old new (placed x)) (sym is) (record { node = ap model_of n; last = l; entries = es }, w)
+    → new.entries.items ≡ old.entries.items → IsWanting old.last above e → Tries due event above old new (placed r)
+not_entered due event above old new r e is n l es w =
+    subst (λ x. Tries due event above old new (placed x)) (sym is) (record { node = ap model_of n; last = l; entries = es }, w)
 
 -- ---- what is told of the entry
 

@@ -143,20 +143,27 @@ fn act_twice(
 }
 
 impl History {
-    /// A caller asks for something: a command, a dial (whether there is a node of the peer's name is
-    /// told), a loss, a stop or a start. The place of the entry is told, and its answer. (ERTS User's
-    /// Guide, Distribution Protocol; Reference Manual, Processes.)
+    /// Applies a request of a caller: a command, a dial, a loss, a stop or a start. Appends its entry, whose
+    /// stamp is above the last one and above `above`. Returns the place of the entry, and a copy of its
+    /// answer. `is_known` tells of a dial: true if there is a node of the peer's name. (ERTS User's Guide,
+    /// Distribution Protocol; Reference Manual, Processes.)
     ///
     /// # Errors
     /// [`Refusal::IdsUsedUp`] where no higher stamp is left, and then [`Refusal::OutOfMemory`], also
     /// where there is none for the answer that is told. Then nothing has changed.
-    pub fn act(&mut self, alloc: Global, is_known: bool, event: NodeEvent) -> Result<Told, Refusal>
+    pub fn act(
+        &mut self,
+        alloc: Global,
+        is_known: bool,
+        event: NodeEvent,
+        above: u64,
+    ) -> Result<Told, Refusal>
         requires { is_act event ≡ true }
         ensures tries { (names : List Name) → Knows names event is_known →
-            Tries (at_node names (model_of self.old.node) (met event None)) event 0 self.old self.new (placed result) }
+            Tries (at_node names (model_of self.old.node) (met event None)) event above self.old self.new (placed result) }
         ensures told { IfOk result (IsTold self.new.entries.items) }
     {
-        let stamp = self.next_stamp(0)?;
+        let stamp = self.next_stamp(above)?;
         let Twice { answer, copy } = match act_twice(alloc, &mut self.node, is_known, &event) {
             Ok(both) => both,
             Err(e) => {

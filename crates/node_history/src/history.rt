@@ -52,6 +52,13 @@ impl History {
         self.last
     }
 
+    /// Returns the greater of two stamps: that of the last event, or 0, and `above`.
+    pub fn last_or(&self, above: u64) -> u64
+        ensures { result ≡ max self.now.last above }
+    {
+        if self.last < above { above } else { self.last }
+    }
+
     /// The entries of what has happened, the first event first.
     pub fn entries(&self) -> &[Entry]
         ensures { result.now ≡ self.now.entries.items }
@@ -72,8 +79,7 @@ impl History {
         ensures room { OnOk result (vec_len self.new.entries < vec_capacity self.new.entries) }
         ensures err { IfErr result (IsWanting self.old.last above) }
     {
-        let top = if self.last < above { above } else { self.last };
-        let Some(stamp) = top.checked_add(1) else {
+        let Some(stamp) = self.last_or(above).checked_add(1) else {
             return Err(Refusal::IdsUsedUp);
         };
         match self.entries.reserve(1) {

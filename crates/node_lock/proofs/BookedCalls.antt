@@ -138,28 +138,28 @@ seen names place setup greatest history outlets = record {
   greatest = greatest;
 }
 
-plain_comes : (what : NodeEvent) (outlets : List Outlet) → is_plain what ≡ true → IsComing what outlets None 0
-plain_comes (event.Arrive trunk word) outlets h = absurd (let no : false ≡ true = h in cc)
-plain_comes what outlets h = (refl, refl)
+plain_comes : (what : NodeEvent) (above : ℕ) (outlets : List Outlet) → is_plain what ≡ true → IsComing what above outlets None above
+plain_comes (event.Arrive trunk word) above outlets h = absurd (let no : false ≡ true = h in cc)
+plain_comes what above outlets h = (refl, refl)
 
 module _ (names : List Name) (place : ℕ) (setup : Setup) (greatest : ℕ) (old new : History) (outlets : List Outlet)
-    (what : NodeEvent) (plain : is_plain what ≡ true) where
-  pub plainly : (result : Result ℕ Refusal) → HappensAt what old new result
-      → IfOk result (Applies what (seen names place setup greatest old outlets) (seen names place setup greatest new outlets))
+    (what : NodeEvent) (above : ℕ) (plain : is_plain what ≡ true) where
+  pub plainly : (result : Result ℕ Refusal) → HappensAt what above old new result
+      → IfOk result (Applies what above (seen names place setup greatest old outlets) (seen names place setup greatest new outlets))
   plainly (Ok at) h =
       let t = h names in
       record {
         first = None;
-        sent = 0;
-        comes = plain_comes what outlets plain;
+        sent = above;
+        comes = plain_comes what above outlets plain;
         enters = t.0;
         place_is = t.1;
         same = record { names = refl; place = refl; setup = refl; greatest = refl };
       }
   plainly (Err e) h = tt
 
-  pub plainly_not : (result : Result ℕ Refusal) → HappensAt what old new result
-      → IfErr result (IsUnapplied what (seen names place setup greatest old outlets) (seen names place setup greatest new outlets))
+  pub plainly_not : (result : Result ℕ Refusal) → HappensAt what above old new result
+      → IfErr result (IsUnapplied what above (seen names place setup greatest old outlets) (seen names place setup greatest new outlets))
   plainly_not (Ok at) h = tt
   plainly_not (Err e) h =
       let t = h names in
@@ -167,7 +167,7 @@ module _ (names : List Name) (place : ℕ) (setup : Setup) (greatest : ℕ) (old
         same = record { names = refl; place = refl; setup = refl; greatest = refl };
         history = t.0;
         outlets = refl;
-        why = inr (None, 0, plain_comes what outlets plain, t.1);
+        why = inr (None, above, plain_comes what above outlets plain, t.1);
       }
 
 -- ---- as the code tells it
@@ -216,11 +216,11 @@ module _ (names : List Name) (place : ℕ) (setup : Setup) (greatest : ℕ) (old
   next_is = ap (λ o. next_at o) outlet_is
 
   of_piece : (parcel : Parcel) → first_of before.port.slot ≡ Some parcel → (piece : SpellsItem parcel.bytes)
-      → IsComing (event.Arrive trunk word) outlets (Some piece.item) parcel.stamp
+      → IsComing (event.Arrive trunk word) 0 outlets (Some piece.item) parcel.stamp
   of_piece parcel slot piece = subst (λ q. IsOf q piece.item parcel.stamp) (sym (next_is ∙ slot)) (refl, sym piece.written, piece.spelled)
 
   pub arrive_applies : (result : Result ℕ Refusal) → IfOk result (Takes trunk word old new before after)
-      → IfOk result (Applies (event.Arrive trunk word) (seen names place setup greatest old outlets)
+      → IfOk result (Applies (event.Arrive trunk word) 0 (seen names place setup greatest old outlets)
       (seen names place setup greatest new (set outlets at after)))
   arrive_applies (Ok x) h = record {
     first = Some h.piece.item;
@@ -234,7 +234,7 @@ module _ (names : List Name) (place : ℕ) (setup : Setup) (greatest : ℕ) (old
 
   why_not : (e : Refusal) → TakesNothing trunk old new before after e
       → ((e ≡ Refusal.NothingThere) × IsUnready (event.Arrive trunk word) (seen names place setup greatest old outlets))
-      ⊎ ((first : Option Item) × (sent : ℕ) × IsComing (event.Arrive trunk word) outlets first sent × IsWanting old.last sent e)
+      ⊎ ((first : Option Item) × (sent : ℕ) × IsComing (event.Arrive trunk word) 0 outlets first sent × IsWanting old.last sent e)
   why_not e h = ⊎_elim
       (λ (x : (e ≡ Refusal.NothingThere) × (is_ready (model_of old.node) trunk (first_of before.port.slot) ≡ false)).
       inl (x.0, ap (λ q. is_ready (model_of old.node) trunk q) next_is ∙ x.1))
@@ -242,7 +242,7 @@ module _ (names : List Name) (place : ℕ) (setup : Setup) (greatest : ℕ) (old
       inr (Some x.2.item, x.0.stamp, of_piece x.0 x.1 x.2, x.3)) h.why
 
   pub arrive_unapplied : (result : Result ℕ Refusal) → IfErr result (TakesNothing trunk old new before after)
-      → IfErr result (IsUnapplied (event.Arrive trunk word) (seen names place setup greatest old outlets)
+      → IfErr result (IsUnapplied (event.Arrive trunk word) 0 (seen names place setup greatest old outlets)
       (seen names place setup greatest new (set outlets at after)))
   arrive_unapplied (Ok x) h = tt
   arrive_unapplied (Err e) h = record {
@@ -255,7 +255,7 @@ module _ (names : List Name) (place : ℕ) (setup : Setup) (greatest : ℕ) (old
 pub nowhere_unapplied : (names : List Name) (place : ℕ) (setup : Setup) (greatest : ℕ) (history : History)
     (outlets os' : List Outlet) (trunk : TrunkId) (word : ℕ) → os' ≡ outlets
     → None ≡ position (λ o. eq_by_cmp trunk_cmp trunk o.port.trunk) os'
-    → IsUnapplied (event.Arrive trunk word) (seen names place setup greatest history outlets)
+    → IsUnapplied (event.Arrive trunk word) 0 (seen names place setup greatest history outlets)
     (seen names place setup greatest history outlets) Refusal.NothingThere
 nowhere_unapplied names place setup greatest history outlets os' trunk word same h = record {
   same = record { names = refl; place = refl; setup = refl; greatest = refl };
@@ -269,13 +269,13 @@ nowhere_unapplied names place setup greatest history outlets os' trunk word same
 }
 
 pub dial_kept : BooksGrow → NextIsNew → (greatest : ℕ) (names : List Name) (place : ℕ) (setup : Setup) (old new : History)
-    (outlets after : List Outlet) (is_known : Bool) (peer : Name) (word : ℕ)
-    (result : Result ℕ Refusal) → has_name peer names ≡ is_known → IfOk result (DialsOut greatest is_known peer word old new outlets after)
+    (outlets after : List Outlet) (is_known : Bool) (peer : Name) (word above : ℕ)
+    (result : Result ℕ Refusal) → has_name peer names ≡ is_known → IfOk result (DialsOut greatest is_known peer word above old new outlets after)
     → IfErr result (λ e. Stays old new) → IfErr result (λ e. after ≡ outlets) → IsBook names place setup old outlets
     → IsBook names place setup new after
-dial_kept grow next greatest names place setup old new outlets after is_known peer word (Ok x) known ok st os kept =
-    dialed grow next names place setup old new outlets after is_known peer word greatest known kept x ok
-dial_kept grow next greatest names place setup old new outlets after is_known peer word (Err e) known ok st os kept =
+dial_kept grow next greatest names place setup old new outlets after is_known peer word above (Ok x) known ok st os kept =
+    dialed grow next names place setup old new outlets after is_known peer word greatest above known kept x ok
+dial_kept grow next greatest names place setup old new outlets after is_known peer word above (Err e) known ok st os kept =
     still_kept names place setup old new outlets after st os kept
 
 pub none_same : (trunk : TrunkId) (os : List Outlet)

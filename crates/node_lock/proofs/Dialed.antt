@@ -107,20 +107,20 @@ some_port : (p : Port) {A : Type 0} → ◌≡◌ {A = Option Port} None (Some p
 some_port p h = cc
 
 module _ (grow : BooksGrow) (new_next : NextIsNew) (place : ℕ) (nodes : Nodes) (old new : History) (peer : Name)
-    (word greatest : ℕ) (outlets : List Outlet)
+    (word greatest above : ℕ) (outlets : List Outlet)
     (below : place < length nodes) (s : HasBook place old outlets nodes)
-    (e : Enters (at_node (names_of nodes) (model_of old.node) (met_by (event.Dial peer word) None)) (event.Dial peer word) 0 old new) where
+    (e : Enters (at_node (names_of nodes) (model_of old.node) (met_by (event.Dial peer word) None)) (event.Dial peer word) above old new) where
   abbrev own : Name
   own = name_at nodes place
 
   abbrev due : Outcome
-  due = one_more.due grow place nodes old new (event.Dial peer word) None 0 outlets below s e
+  due = one_more.due grow place nodes old new (event.Dial peer word) None above outlets below s e
 
   abbrev grown : TrunkId → Option Port → Option Port
-  grown = one_more.grown grow place nodes old new (event.Dial peer word) None 0 outlets below s e
+  grown = one_more.grown grow place nodes old new (event.Dial peer word) None above outlets below s e
 
   abbrev entry : Entry
-  entry = one_more.entry grow place nodes old new (event.Dial peer word) None 0 outlets below s e
+  entry = one_more.entry grow place nodes old new (event.Dial peer word) None above outlets below s e
 
   abbrev es : List Entry
   es = old.entries.items ++ entry ∷ []
@@ -157,8 +157,8 @@ module _ (grow : BooksGrow) (new_next : NextIsNew) (place : ℕ) (nodes : Nodes)
     abbrev LeavesAt : TrunkId → Option Port → Option Port → Type 0
     LeavesAt t =
         Leaves own (acting.sent_in due) None new.last t s.book.node
-        (one_more.next_node grow place nodes old new (event.Dial peer word) None 0 outlets below s e)
-        (meets (one_more.now grow place nodes old new (event.Dial peer word) None 0 outlets below s e) None)
+        (one_more.next_node grow place nodes old new (event.Dial peer word) None above outlets below s e)
+        (meets (one_more.now grow place nodes old new (event.Dial peer word) None above outlets below s e) None)
 
     leaves_here : LeavesAt t0 None (Some opened)
     leaves_here = (
@@ -176,7 +176,7 @@ module _ (grow : BooksGrow) (new_next : NextIsNew) (place : ℕ) (nodes : Nodes)
     leaves t true same =
         subst (λ u. LeavesAt u (s.book.ports u) (Some opened)) (sym (same_trunk_true t t0 same))
         (subst (λ q. LeavesAt t0 q (Some opened)) (sym was_none) leaves_here)
-    leaves t false same = leaves_grown grow place nodes old new (event.Dial peer word) None 0 outlets below s e t (s.book.ports t)
+    leaves t false same = leaves_grown grow place nodes old new (event.Dial peer word) None above outlets below s e t (s.book.ports t)
 
     towards : (t : TrunkId) (q : Name) → Dials s.book.node (met.Dial peer word) t q → IsTowards (ports t) q
     towards t q d =
@@ -193,7 +193,7 @@ module _ (grow : BooksGrow) (new_next : NextIsNew) (place : ℕ) (nodes : Nodes)
       to_come = subst (λ fs. AreFramesOf fs sent)
           (sym (waiting_snoc (t0, peer) (length old.entries.items) 0 old.entries.items entry (inr (refl, refl))
           ∙ ap (λ fs. fs ++ sent_in (t0, peer) entry) (none_behind (t0, peer) old.entries.items)))
-          (more grow place nodes old new (event.Dial peer word) None 0 outlets below s e t0 peer);
+          (more grow place nodes old new (event.Dial peer word) None above outlets below s e t0 peer);
       place = place_snoc (length old.entries.items) 0 old.entries.items entry (inr (refl, refl));
     }
 
@@ -201,14 +201,14 @@ module _ (grow : BooksGrow) (new_next : NextIsNew) (place : ℕ) (nodes : Nodes)
         → FeedsAt t es (cond b (Some outlet) (outlet_of t outlets)) (cond b (Some opened) (grown t (s.book.ports t)))
     fed t true same = subst (λ u. FeedsAt u es (Some outlet) (Some opened)) (sym (same_trunk_true t t0 same)) fed_here
     fed t false same =
-        feeds_grown grow place nodes old new (event.Dial peer word) None 0 outlets below s e t (outlet_of t outlets)
+        feeds_grown grow place nodes old new (event.Dial peer word) None above outlets below s e t (outlet_of t outlets)
         (s.book.ports t) (s.is.ports t)
 
     pub entered_dialing : HasBook place new (outlets ++ outlet ∷ []) nodes
     entered_dialing =
-        entered grow place nodes old new (event.Dial peer word) None 0 outlets below s e None ports (outlets ++ outlet ∷ [])
+        entered grow place nodes old new (event.Dial peer word) None above outlets below s e None ports (outlets ++ outlet ∷ [])
         tt (sym (ap
-        (λ d. acting.taken_in (one_more.now grow place nodes old new (event.Dial peer word) None 0 outlets below s e) None d)
+        (λ d. acting.taken_in (one_more.now grow place nodes old new (event.Dial peer word) None above outlets below s e) None d)
         accepted)) tt
         (λ t. leaves t (same_trunk t t0) refl)
         (λ t q d h. towards t q d)

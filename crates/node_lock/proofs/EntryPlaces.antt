@@ -36,7 +36,7 @@ nothing_known : (what : NodeEvent) (names : List Name) → is_plain what ≡ tru
 nothing_known (event.Dial peer word) names h = absurd (let no : false ≡ true = h in cc)
 nothing_known what names h = tt
 
-pub known_plainly : (what : NodeEvent) (old new : History) (r : Result ℕ Refusal) → is_plain what ≡ true
-    → ((names : List Name) → Knows names what false → Tries (at_node names (model_of old.node) (met what None)) what 0 old new r)
-    → HappensAt what old new r
-known_plainly what old new r plain h = λ names. h names (nothing_known what names plain)
+pub known_plainly : (what : NodeEvent) (above : ℕ) (old new : History) (r : Result ℕ Refusal) → is_plain what ≡ true
+    → ((names : List Name) → Knows names what false → Tries (at_node names (model_of old.node) (met what None)) what above old new r)
+    → HappensAt what above old new r
+known_plainly what above old new r plain h = λ names. h names (nothing_known what names plain)

@@ -113,25 +113,26 @@ module _ (own : Name) where
   plain_dials (event.Dial q w) peer word p h = let no : false ≡ true = p in cc
   plain_dials what peer word p h = cc
 
-abbrev pub HappensAt : NodeEvent → (old new : History) → Result ℕ Refusal → Type 0
-HappensAt what old new result = (names : List Name) → Tries (at_node names (model_of old.node) (met_by what None)) what 0 old new result
+abbrev pub HappensAt : NodeEvent → (above : ℕ) → (old new : History) → Result ℕ Refusal → Type 0
+HappensAt what above old new result =
+    (names : List Name) → Tries (at_node names (model_of old.node) (met_by what None)) what above old new result
 
 pub happened : BooksGrow → (names : List Name) (place : ℕ) (setup : Setup) (old new : History) (outlets : List Outlet)
-    (what : NodeEvent) (result : Result ℕ Refusal)
-    → is_plain what ≡ true → HappensAt what old new result → IsBook names place setup old outlets → IsBook names place setup new outlets
-happened grow names place setup old new outlets what (Ok at) plain h kept = (
+    (what : NodeEvent) (above : ℕ) (result : Result ℕ Refusal)
+    → is_plain what ≡ true → HappensAt what above old new result → IsBook names place setup old outlets → IsBook names place setup new outlets
+happened grow names place setup old new outlets what above (Ok at) plain h kept = (
   kept.0,
   λ nodes a.
       let own = name_at nodes place in
       let e = (h (names_of nodes)).0 in
       let below = is_below names place setup nodes a kept.0 in
       let s = kept.1 nodes a in
-      entered_plainly grow place nodes old new what None 0 outlets below s e (plain_met own what plain)
-      (plain_takes own what (one_more.due grow place nodes old new what None 0 outlets below s e))
+      entered_plainly grow place nodes old new what None above outlets below s e (plain_met own what plain)
+      (plain_takes own what (one_more.due grow place nodes old new what None above outlets below s e))
       (λ t peer d to. absurd (plain_dials own what peer d.0.0 plain d.0.1)),
   kept.2,
 )
-happened grow names place setup old new outlets what (Err e) plain h kept =
+happened grow names place setup old new outlets what above (Err e) plain h kept =
     still_kept names place setup old new outlets outlets (h names).0 refl kept
 
 -- ---- an item comes
@@ -215,8 +216,8 @@ module _ (grow : BooksGrow) (names : List Name) (place : ℕ) (setup : Setup) (o
 
 module _ (grow : BooksGrow) (new_next : NextIsNew) (names : List Name) (place : ℕ) (setup : Setup) (old new : History)
     (outlets after : List Outlet) (is_known : Bool)
-    (peer : Name) (word greatest : ℕ) (known : has_name peer names ≡ is_known) (kept : IsBook names place setup old outlets) where
-  module _ (at : ℕ) (h : DialsOut greatest is_known peer word old new outlets after at) (nodes : Nodes)
+    (peer : Name) (word greatest above : ℕ) (known : has_name peer names ≡ is_known) (kept : IsBook names place setup old outlets) where
+  module _ (at : ℕ) (h : DialsOut greatest is_known peer word above old new outlets after at) (nodes : Nodes)
       (a : AreNodes names place setup nodes) where
     s2 : HasBook place old outlets nodes
     s2 = kept.1 nodes a
@@ -227,11 +228,11 @@ module _ (grow : BooksGrow) (new_next : NextIsNew) (names : List Name) (place : 
     abbrev outcome : Outcome
     outcome = at_node (names_of nodes) (model_of old.node) (met_by (event.Dial peer word) None)
 
-    e2 : Enters outcome (event.Dial peer word) 0 old new
+    e2 : Enters outcome (event.Dial peer word) above old new
     e2 = h.enters (names_of nodes) (ap (λ (l : List Name). has_name peer l) a.named ∙ known)
 
     abbrev due2 : Outcome
-    due2 = one_more.due grow place nodes old new (event.Dial peer word) None 0 outlets below2 s2 e2
+    due2 = one_more.due grow place nodes old new (event.Dial peer word) None above outlets below2 s2 e2
 
     abbrev own : Name
     own = (model_of old.node).mint.name
@@ -243,7 +244,7 @@ module _ (grow : BooksGrow) (new_next : NextIsNew) (names : List Name) (place : 
     opened_by answer is =
         h.opened
         ∙ ap (λ (x : Option Entry). with_opened greatest own peer at (count_of (trunk_in x)) outlets)
-        (last_entry outcome (event.Dial peer word) 0 old new e2 at h.place_is)
+        (last_entry outcome (event.Dial peer word) above old new e2 at h.place_is)
         ∙ ap (λ x. with_opened greatest own peer at (count_of (trunk_answered x)) outlets) is
 
     -- a new outlet of that connection
@@ -262,10 +263,10 @@ module _ (grow : BooksGrow) (new_next : NextIsNew) (names : List Name) (place : 
         subst (λ os. HasBook place new os nodes)
         (sym (opened_by (Ok report) is ∙ ap (λ c. with_opened greatest own peer at c outlets) said
         ∙ same_outlet own (ap (λ (m : model.Node). m.mint.name) (sym s2.is.node))))
-        (entered_dialing grow new_next place nodes old new peer word greatest outlets below2 s2 e2 d.answer d.work d.accepts)
+        (entered_dialing grow new_next place nodes old new peer word greatest above outlets below2 s2 e2 d.answer d.work d.accepts)
     by_reply (Err why) is d =
         subst (λ os. HasBook place new os nodes) (sym (opened_by (Err why) is))
-        (entered_refused grow place nodes old new (event.Dial peer word) None 0 outlets below2 s2 e2 tt why d.0)
+        (entered_refused grow place nodes old new (event.Dial peer word) None above outlets below2 s2 e2 tt why d.0)
 
     apart_by : (answer : Answer) → e2.answer ≡ answer → Ends due2 s2.book.node (model_of new.node) answer → AreApart after
     apart_by (Ok report) is d =
@@ -276,16 +277,16 @@ module _ (grow : BooksGrow) (new_next : NextIsNew) (names : List Name) (place : 
         (sym (opened_by (Ok report) is ∙ ap (λ c. with_opened greatest own peer at c outlets) said
         ∙ same_outlet own (ap (λ (m : model.Node). m.mint.name) (sym s2.is.node))))
         (apart_push outlets (opened_outlet greatest (next_trunk s2.book.node) peer old.entries.items)
-        (none grow new_next place nodes old new peer word greatest outlets below2 s2 e2 d.answer d.work d.accepts) kept.2)
+        (none grow new_next place nodes old new peer word greatest above outlets below2 s2 e2 d.answer d.work d.accepts) kept.2)
     apart_by (Err why) is d = subst AreApart (sym (opened_by (Err why) is)) kept.2
 
     pub dialed_apart : AreApart after
-    dialed_apart = apart_by e2.answer refl (ends grow place nodes old new (event.Dial peer word) None 0 outlets below2 s2 e2)
+    dialed_apart = apart_by e2.answer refl (ends grow place nodes old new (event.Dial peer word) None above outlets below2 s2 e2)
 
     pub dialed_stands : HasBook place new after nodes
-    dialed_stands = by_reply e2.answer refl (ends grow place nodes old new (event.Dial peer word) None 0 outlets below2 s2 e2)
+    dialed_stands = by_reply e2.answer refl (ends grow place nodes old new (event.Dial peer word) None above outlets below2 s2 e2)
 
-  pub dialed : (at : ℕ) → DialsOut greatest is_known peer word old new outlets after at → IsBook names place setup new after
+  pub dialed : (at : ℕ) → DialsOut greatest is_known peer word above old new outlets after at → IsBook names place setup new after
   dialed at h = (
     kept.0,
     λ nodes a. dialed_stands at h nodes a,

@@ -77,22 +77,22 @@ pub some_names : (peer : Name) (is_known : Bool) → (names : List Name) × (has
 some_names peer true = (peer ∷ [], ap (λ b. b || false) (same_name_refl peer))
 some_names peer false = ([], refl)
 
-module _ (old new : History) (before after : List Outlet) (is_known : Bool) (peer : Name) (word : ℕ) (r : Result ℕ Refusal)
+module _ (old new : History) (before after : List Outlet) (is_known : Bool) (peer : Name) (word above : ℕ) (r : Result ℕ Refusal)
     (dials : (names : List Name) → has_name peer names ≡ is_known
-    → Tries (at_node names (model_of old.node) (model.Dial peer word)) (event.Dial peer word) 0 old new r) where
-  pub dialed_not : (e : Refusal) → r ≡ Err e → Stays old new × IsWanting old.last 0 e
+    → Tries (at_node names (model_of old.node) (model.Dial peer word)) (event.Dial peer word) above old new r) where
+  pub dialed_not : (e : Refusal) → r ≡ Err e → Stays old new × IsWanting old.last above e
   dialed_not e is =
       let n = some_names peer is_known in
-      subst (Tries (at_node n.0 (model_of old.node) (model.Dial peer word)) (event.Dial peer word) 0 old new) is (dials n.0 n.1)
+      subst (Tries (at_node n.0 (model_of old.node) (model.Dial peer word)) (event.Dial peer word) above old new) is (dials n.0 n.1)
 
   pub dialed_out : (greatest place : ℕ) (own to : Name) (count : Option ℕ) → r ≡ Ok place → own ≡ (model_of old.node).mint.name → to ≡ peer
       → count ≡ option_map (λ (t : TrunkId). t.count) (trunk_in (slice_get new.entries.items place))
       → after ≡ with_opened greatest own to place count before
-      → DialsOut greatest is_known peer word old new before after place
+      → DialsOut greatest is_known peer word above old new before after place
   dialed_out greatest place own to count is o t c h =
       let n = some_names peer is_known in
       let at : (names : List Name) → has_name peer names ≡ is_known → _ = λ names k.
-      subst (Tries (at_node names (model_of old.node) (model.Dial peer word)) (event.Dial peer word) 0 old new) is (dials names k) in
+      subst (Tries (at_node names (model_of old.node) (model.Dial peer word)) (event.Dial peer word) above old new) is (dials names k) in
       record {
         enters = λ names k. (at names k).0;
         place_is = (at n.0 n.1).1;

@@ -43,10 +43,11 @@ abbrev pub IsOf : Option Parcel → Item → ℕ → Type 0
 IsOf None item sent = ⊥
 IsOf (Some parcel) item sent = (parcel.stamp ≡ sent) × (parcel.bytes ≡ bytes_of item) × IsSpelled item
 
-abbrev pub IsComing : NodeEvent → List Outlet → Option Item → (sent : ℕ) → Type 0
-IsComing (event.Arrive trunk word) outlets None sent = ⊥
-IsComing (event.Arrive trunk word) outlets (Some item) sent = IsOf (next_at (outlet_of trunk outlets)) item sent
-IsComing _ outlets first sent = (first ≡ None) × (sent ≡ 0)
+-- the entry of any other event comes behind the stamp that its caller gives
+abbrev pub IsComing : NodeEvent → (above : ℕ) → List Outlet → Option Item → (sent : ℕ) → Type 0
+IsComing (event.Arrive trunk word) above outlets None sent = ⊥
+IsComing (event.Arrive trunk word) above outlets (Some item) sent = IsOf (next_at (outlet_of trunk outlets)) item sent
+IsComing _ above outlets first sent = (first ≡ None) × (sent ≡ above)
 
 -- ---- an item comes at an outlet
 
@@ -74,10 +75,10 @@ with_opened greatest own peer place None outlets = outlets
 with_opened greatest own peer place (Some count) outlets =
     outlets ++ new_outlet greatest (record { dialer = own; count = count }) peer place ∷ []
 
-pub record DialsOut (greatest : ℕ) (is_known : Bool) (peer : Name) (word : ℕ) (old new : History) (before after : List Outlet)
+pub record DialsOut (greatest : ℕ) (is_known : Bool) (peer : Name) (word above : ℕ) (old new : History) (before after : List Outlet)
     (place : ℕ) : Type 0 where
   pub enters : (names : List Name) → has_name peer names ≡ is_known
-      → Enters (at_node names (model_of old.node) (met (event.Dial peer word) None)) (event.Dial peer word) 0 old new
+      → Enters (at_node names (model_of old.node) (met (event.Dial peer word) None)) (event.Dial peer word) above old new
   pub place_is : place ≡ length old.entries.items
   pub opened : after ≡ with_opened greatest (model_of old.node).mint.name peer place
       (option_map (λ (trunk : TrunkId). trunk.count) (trunk_in (slice_get new.entries.items place))) before

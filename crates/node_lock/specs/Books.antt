@@ -42,11 +42,12 @@ pub record IsFreshBook (names : List Name) (place : ℕ) (setup : Setup) (book :
   pub outlets : book.outlets ≡ []
   pub greatest_is : book.greatest ≡ 512
 
--- the event is entered, at the node of the model as the step of it that the event is
-pub record Applies (what : NodeEvent) (old new : BookSeen) (place : ℕ) : Type 0 where
+-- The event is entered, at the node of the model as the step of it that the event is. The entry of an event at
+-- which nothing comes from a peer is behind the stamp `above`.
+pub record Applies (what : NodeEvent) (above : ℕ) (old new : BookSeen) (place : ℕ) : Type 0 where
   pub first : Option Item
   pub sent : ℕ
-  pub comes : IsComing what old.outlets first sent
+  pub comes : IsComing what above old.outlets first sent
   pub enters : Enters (at_node old.names (model_of old.history.node) (met what first)) what sent old.history new.history
   pub place_is : place ≡ length old.history.entries.items
   pub same : IsSameNode old new
@@ -56,12 +57,12 @@ abbrev pub IsUnready : NodeEvent → BookSeen → Type 0
 IsUnready (event.Arrive trunk word) book = is_ready_on (model_of book.history.node) trunk book.outlets ≡ false
 IsUnready _ book = ⊥
 
-pub record IsUnapplied (what : NodeEvent) (old new : BookSeen) (e : Refusal) : Type 0 where
+pub record IsUnapplied (what : NodeEvent) (above : ℕ) (old new : BookSeen) (e : Refusal) : Type 0 where
   pub same : IsSameNode old new
   pub history : Stays old.history new.history
   pub outlets : new.outlets ≡ old.outlets
   pub why : ((e ≡ Refusal.NothingThere) × IsUnready what old)
-      ⊎ ((first : Option Item) × (sent : ℕ) × IsComing what old.outlets first sent × IsWanting old.history.last sent e)
+      ⊎ ((first : Option Item) × (sent : ℕ) × IsComing what above old.outlets first sent × IsWanting old.history.last sent e)
 
 -- between two entries
 pub record Rests (old new : BookSeen) : Type 0 where

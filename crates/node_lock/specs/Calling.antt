@@ -1,5 +1,5 @@
 -- The additions of a call to a book and to a seat.
-use Rattle.std.specs.Prelude.{◌≡◌, ◌⊎◌, ℕ, Option, None, Some, List, [], ◌∷◌, ◌++◌, length, slice_get}
+use Rattle.std.specs.Prelude.{◌≡◌, ◌⊎◌, ◌<◌, ℕ, Option, None, Some, List, [], ◌∷◌, ◌++◌, length, slice_get}
 use Rattle.erl_term.specs.declared.refusal.Refusal.{Refusal}
 use Rattle.node_lock.specs.Books.{Applies, IsSameNode, IsUnapplied}
 use Rattle.node_lock.specs.Seen.{BookSeen}
@@ -25,21 +25,25 @@ IsAtHome book seat = (seat.node ≡ book.place) × LastIsEntered (last_of seat.r
 pub record AddsReceipt (old new : Seat) (asked : Asked) : Type 0 where
   pub node : new.node ≡ old.node
   pub receipts : new.receipts.items ≡ old.receipts.items ++ asked ∷ []
+  pub above : new.above ≡ old.above
 
 pub record IsSameSeat (old new : Seat) : Type 0 where
   pub node : new.node ≡ old.node
   pub receipts : new.receipts.items ≡ old.receipts.items
+  pub above : new.above ≡ old.above
 
 -- the refusals of a call itself. Whatever the node refuses is the answer of a receipt
 abbrev pub IsCallRefusal : Refusal → Type 0
 IsCallRefusal e = (e ≡ Refusal.StrangeSeat) ⊎ ((e ≡ Refusal.IdsUsedUp) ⊎ (e ≡ Refusal.OutOfMemory))
 
--- the seat has one receipt more, at the returned index: of this act at its node, behind the last one in place and stamp
+-- The seat has one receipt more, at the returned index: of this act at its node, behind the last one in place and
+-- stamp, and behind the stamp that the seat follows.
 pub record Asks (act : Act) (seat after : Seat) (place : ℕ) : Type 0 where
   pub asked : Asked
   pub event : asked.event ≡ event_of act
   pub node : asked.receipt.node ≡ seat.node
   pub behind : IsBehind (last_of seat.receipts.items) asked
+  pub above : seat.above < asked.receipt.stamp
   pub adds : AddsReceipt seat after asked
   pub place_is : place ≡ length seat.receipts.items
 
@@ -47,7 +51,7 @@ pub record Asks (act : Act) (seat after : Seat) (place : ℕ) : Type 0 where
 pub record Calls (act : Act) (book next : BookSeen) (seat after : Seat) (place : ℕ) : Type 0 where
   pub home : IsAtHome book seat
   pub asks : Asks act seat after place
-  pub applies : Applies (event_of act) book next asks.asked.receipt.position
+  pub applies : Applies (event_of act) seat.above book next asks.asked.receipt.position
   pub stamp : asks.asked.receipt.stamp ≡ next.history.last
   pub stands : IsEnteredAs asks.asked (slice_get next.history.entries.items asks.asked.receipt.position)
 
@@ -57,4 +61,4 @@ pub record IsUncalled (act : Act) (book next : BookSeen) (seat after : Seat) (e 
   pub history : Stays book.history next.history
   pub outlets : next.outlets ≡ book.outlets
   pub why : ((e ≡ Refusal.StrangeSeat) × (IsAtHome book seat → ⊥))
-      ⊎ (IsAtHome book seat × IsUnapplied (event_of act) book next e)
+      ⊎ (IsAtHome book seat × IsUnapplied (event_of act) seat.above book next e)

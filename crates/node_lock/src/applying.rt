@@ -93,8 +93,8 @@ impl Book {
 
     // The first signal that travels from the node to itself comes.
     fn local(&mut self, alloc: Global) -> Result<usize, Refusal>
-        ensures ok { IfOk result (Applies event.Local self.old self.new) }
-        ensures err { IfErr result (IsUnapplied event.Local self.old self.new) }
+        ensures ok { IfOk result (Applies event.Local 0 self.old self.new) }
+        ensures err { IfErr result (IsUnapplied event.Local 0 self.old self.new) }
     {
         dist_books::books_grow();
         self.history.local(alloc)
@@ -102,8 +102,8 @@ impl Book {
 
     // The least record of a lost connection is swept.
     fn sweep(&mut self, alloc: Global) -> Result<usize, Refusal>
-        ensures ok { IfOk result (Applies event.Sweep self.old self.new) }
-        ensures err { IfErr result (IsUnapplied event.Sweep self.old self.new) }
+        ensures ok { IfOk result (Applies event.Sweep 0 self.old self.new) }
+        ensures err { IfErr result (IsUnapplied event.Sweep 0 self.old self.new) }
     {
         dist_books::books_grow();
         self.history.sweep(alloc)
@@ -121,8 +121,8 @@ impl Book {
         word: u32,
         near: usize,
     ) -> Result<usize, Refusal>
-        ensures ok { IfOk result (Applies (event.Arrive trunk word) self.old self.new) }
-        ensures err { IfErr result (IsUnapplied (event.Arrive trunk word) self.old self.new) }
+        ensures ok { IfOk result (Applies (event.Arrive trunk word) 0 self.old self.new) }
+        ensures err { IfErr result (IsUnapplied (event.Arrive trunk word) 0 self.old self.new) }
     {
         dist_books::books_grow();
         match place_near(&self.outlets, &trunk, near) {
@@ -132,22 +132,28 @@ impl Book {
     }
 
     // Enters an event that a caller asks for and that happens at the node alone.
-    fn ask(&mut self, alloc: Global, event: NodeEvent) -> Result<Told, Refusal>
+    fn ask(&mut self, alloc: Global, event: NodeEvent, above: u64) -> Result<Told, Refusal>
         requires plain { is_plain event ≡ true }
         requires act { is_act event ≡ true }
-        ensures ok { IfOk result (λ told. Applies event self.old self.new told.place) }
+        ensures ok { IfOk result (λ told. Applies event above self.old self.new told.place) }
         ensures told { IfOk result (IsTold self.new.history.entries.items) }
-        ensures err { IfErr result (IsUnapplied event self.old self.new) }
+        ensures err { IfErr result (IsUnapplied event above self.old self.new) }
     {
         dist_books::books_grow();
-        self.history.act(alloc, false, event)
+        self.history.act(alloc, false, event, above)
     }
 
     // The node dials another.
-    fn dial(&mut self, alloc: Global, peer: NodeName, word: u32) -> Result<Told, Refusal>
-        ensures ok { IfOk result (λ told. Applies (event.Dial peer word) self.old self.new told.place) }
+    fn dial(
+        &mut self,
+        alloc: Global,
+        peer: NodeName,
+        word: u32,
+        above: u64,
+    ) -> Result<Told, Refusal>
+        ensures ok { IfOk result (λ told. Applies (event.Dial peer word) above self.old self.new told.place) }
         ensures told { IfOk result (IsTold self.new.history.entries.items) }
-        ensures err { IfErr result (IsUnapplied (event.Dial peer word) self.old self.new) }
+        ensures err { IfErr result (IsUnapplied (event.Dial peer word) above self.old self.new) }
     {
         dist_books::books_grow();
         let is_known = has_name(&self.names, &peer);
@@ -160,27 +166,28 @@ impl Book {
             is_known,
             peer,
             word,
+            above,
         )
     }
 
-    /// Enters an event that a caller asks for, as [`Book::apply`] does. Returns the place of the entry, and
-    /// its answer. (ERTS User's Guide, Distribution Protocol; Reference Manual, Processes.)
+    /// Enters an event that a caller asks for, as [`Book::apply`] does. The stamp of its entry is above `above`
+    /// too. Returns the place of the entry, and its answer. (ERTS User's Guide, Distribution Protocol; Reference Manual, Processes.)
     ///
     /// # Errors
     /// [`Refusal::IdsUsedUp`] where no higher stamp is left, and then [`Refusal::OutOfMemory`], also
     /// where there is none for the answer that is told. Then nothing has changed.
-    pub fn act(&mut self, alloc: Global, event: NodeEvent) -> Result<Told, Refusal>
+    pub fn act(&mut self, alloc: Global, event: NodeEvent, above: u64) -> Result<Told, Refusal>
         requires { is_act event ≡ true }
-        ensures ok { IfOk result (λ told. Applies event self.old self.new told.place) }
+        ensures ok { IfOk result (λ told. Applies event above self.old self.new told.place) }
         ensures told { IfOk result (IsTold self.new.history.entries.items) }
-        ensures err { IfErr result (IsUnapplied event self.old self.new) }
+        ensures err { IfErr result (IsUnapplied event above self.old self.new) }
     {
         match event {
-            NodeEvent::Call(command) => self.ask(alloc, NodeEvent::Call(command)),
-            NodeEvent::Lose(trunk) => self.ask(alloc, NodeEvent::Lose(trunk)),
-            NodeEvent::Dial { peer, word } => self.dial(alloc, peer, word),
-            NodeEvent::Stop => self.ask(alloc, NodeEvent::Stop),
-            NodeEvent::Start => self.ask(alloc, NodeEvent::Start),
+            NodeEvent::Call(command) => self.ask(alloc, NodeEvent::Call(command), above),
+            NodeEvent::Lose(trunk) => self.ask(alloc, NodeEvent::Lose(trunk), above),
+            NodeEvent::Dial { peer, word } => self.dial(alloc, peer, word, above),
+            NodeEvent::Stop => self.ask(alloc, NodeEvent::Stop, above),
+            NodeEvent::Start => self.ask(alloc, NodeEvent::Start, above),
             NodeEvent::Arrive { .. } => unreachable!(),
             NodeEvent::Local => unreachable!(),
             NodeEvent::Sweep => unreachable!(),
@@ -198,20 +205,20 @@ impl Book {
     /// [`Refusal::IdsUsedUp`] where no higher stamp is left, and then [`Refusal::OutOfMemory`]. Then
     /// nothing has changed.
     pub fn apply(&mut self, alloc: Global, event: NodeEvent) -> Result<usize, Refusal>
-        ensures ok { IfOk result (Applies event self.old self.new) }
-        ensures err { IfErr result (IsUnapplied event self.old self.new) }
+        ensures ok { IfOk result (Applies event 0 self.old self.new) }
+        ensures err { IfErr result (IsUnapplied event 0 self.old self.new) }
     {
         match event {
-            NodeEvent::Call(command) => placed(self.act(alloc, NodeEvent::Call(command))),
+            NodeEvent::Call(command) => placed(self.act(alloc, NodeEvent::Call(command), 0)),
             NodeEvent::Arrive { trunk, word } => self.arrive(alloc, trunk, word, 0),
             NodeEvent::Local => self.local(alloc),
-            NodeEvent::Lose(trunk) => placed(self.act(alloc, NodeEvent::Lose(trunk))),
+            NodeEvent::Lose(trunk) => placed(self.act(alloc, NodeEvent::Lose(trunk), 0)),
             NodeEvent::Sweep => self.sweep(alloc),
             NodeEvent::Dial { peer, word } => {
-                placed(self.act(alloc, NodeEvent::Dial { peer, word }))
+                placed(self.act(alloc, NodeEvent::Dial { peer, word }, 0))
             }
-            NodeEvent::Stop => placed(self.act(alloc, NodeEvent::Stop)),
-            NodeEvent::Start => placed(self.act(alloc, NodeEvent::Start)),
+            NodeEvent::Stop => placed(self.act(alloc, NodeEvent::Stop, 0)),
+            NodeEvent::Start => placed(self.act(alloc, NodeEvent::Start, 0)),
         }
     }
 }

@@ -124,21 +124,22 @@ pub(crate) fn dial(
     is_known: bool,
     peer: NodeName,
     word: u32,
+    above: u64,
 ) -> Result<Told, Refusal>
-    ensures ok { IfOk result (λ told. DialsOut greatest.bytes is_known peer word history.old history.new outlets.old.items outlets.new.items told.place) }
+    ensures ok { IfOk result (λ told. DialsOut greatest.bytes is_known peer word above history.old history.new outlets.old.items outlets.new.items told.place) }
     ensures told { IfOk result (IsTold history.new.entries.items) }
     ensures history { IfErr result (λ e. Stays history.old history.new) }
     ensures outlets { IfErr result (λ e. outlets.new.items ≡ outlets.old.items) }
-    ensures why { IfErr result (IsWanting history.old.last 0) }
+    ensures why { IfErr result (IsWanting history.old.last above) }
 {
-    if history.last() == u64::MAX {
+    if history.last_or(above) == u64::MAX {
         drop(peer);
         return Err(Refusal::IdsUsedUp);
     }
     outlets.reserve(1)?;
     offers.reserve(1)?;
     let halves = both_halves(alloc, history.node(), &peer)?;
-    let told = match history.act(alloc, is_known, NodeEvent::Dial { peer, word }) {
+    let told = match history.act(alloc, is_known, NodeEvent::Dial { peer, word }, above) {
         Ok(told) => told,
         Err(e) => {
             drop(halves);

@@ -53,6 +53,7 @@ impl NodeLock {
     pub fn seat(&self, alloc: Global) -> Seat
         ensures node { result.node ≡ self.now.place }
         ensures receipts { result.receipts.items ≡ [] }
+        ensures above { result.above ≡ 0 }
     {
         Seat::new(alloc, self.place)
     }

@@ -1,5 +1,5 @@
 //! The callers of a node, and the receipts of their acts.
-ghost use Rattle.std.specs.Prelude.{◌≡◌, ◌↔◌, ◌≤◌, ◌++◌, ◌∷◌, IsTrue, OnOk, []};
+ghost use Rattle.std.specs.Prelude.{◌≡◌, ◌↔◌, ◌≤◌, ◌++◌, ◌∷◌, IsTrue, OnOk, [], max};
 ghost use Rattle.std.specs.Option.{option_copied};
 ghost use Rattle.node_lock.specs.Seats.{IsBehind, IsEnteredAs, LastIsEntered, Rise, last_of};
 
@@ -93,11 +93,13 @@ impl Receipts {
     }
 }
 
-/// A caller of one node: the place of the node among all nodes, and its receipts.
+/// A caller of one node: the place of the node among all nodes, its receipts, and the stamp behind which the
+/// entries of its next acts come.
 #[derive(Drop)]
 pub struct Seat {
     pub(crate) node: usize,
     pub(crate) receipts: Receipts,
+    pub(crate) above: u64,
 }
 
 impl Seat {
@@ -105,10 +107,12 @@ impl Seat {
     pub fn new(alloc: Global, node: usize) -> Seat
         ensures node { result.node ≡ node }
         ensures receipts { result.receipts.items ≡ [] }
+        ensures above { result.above ≡ 0 }
     {
         Seat {
             node,
             receipts: Receipts::new(alloc),
+            above: 0,
         }
     }
 
@@ -117,6 +121,19 @@ impl Seat {
         ensures { result ≡ self.now.node }
     {
         self.node
+    }
+
+    /// Follows a stamp: the entries of the next acts come behind it. A caller of several nodes follows with each
+    /// seat the stamps of the receipts that it has seen. Then its acts stand in the merged run in the order in
+    /// which it called.
+    pub fn follow(&mut self, stamp: u64)
+        ensures node { self.new.node ≡ self.old.node }
+        ensures receipts { self.new.receipts.items ≡ self.old.receipts.items }
+        ensures above { self.new.above ≡ max self.old.above stamp }
+    {
+        if self.above < stamp {
+            self.above = stamp;
+        }
     }
 
     /// Returns the receipts with their acts, the first one first. Each is behind the one before it in

@@ -149,7 +149,7 @@ fn comes<R: Wait>(rt: &R, alloc: Global, subject: &mut Subject) -> bool {
 fn obeys<R: Wait>(rt: &R, alloc: Global, subject: &mut Subject, command: Command) -> bool {
     match subject {
         Subject::Bare(node) => node.call(alloc, command).is_ok(),
-        Subject::Kept(book) => did(book.act(alloc, NodeEvent::Call(command))),
+        Subject::Kept(book) => did(book.act(alloc, NodeEvent::Call(command), 0)),
         Subject::Locked(lock, seat) => calls(rt, alloc, lock, seat, command),
     }
 }

@@ -10,19 +10,19 @@ returns-then-not-is_at_home-clause-err c =
 pub returns-then-is_err-clause-err : goal.returns-then-is_err-clause-err
 returns-then-is_err-clause-err c =
     no_room c.args.act c.args.book.now c.args.seat.now (record (c.args.seat.now) { receipts = c.reserve.new.self })
-    (at_home c.is_at_home.result c.is_at_home.ensures c.if-not-is_at_home.false) (omega (arith, c.last.ensures, c.if-last-eq18446744073709551615.false, c.last.type_inv)) refl c.reserve.ensures.items
+    (at_home c.is_at_home.result c.is_at_home.ensures c.if-not-is_at_home.false) (omega (arith, c.stamp_before.ensures, c.if-stamp_before.false, c.stamp_before.type_inv)) refl c.reserve.ensures.items refl
 
 pub returns-in-Err-clause-err : goal.returns-in-Err-clause-err
 returns-in-Err-clause-err c =
     no_room c.args.act c.args.book.now c.args.seat.now (record (c.args.seat.now) { receipts = c.reserve.new.self })
-    (at_home c.is_at_home.result c.is_at_home.ensures c.if-not-is_at_home.false) (omega (arith, c.last.ensures, c.if-last-eq18446744073709551615.false, c.last.type_inv)) refl c.reserve.ensures.items
+    (at_home c.is_at_home.result c.is_at_home.ensures c.if-not-is_at_home.false) (omega (arith, c.stamp_before.ensures, c.if-stamp_before.false, c.stamp_before.type_inv)) refl c.reserve.ensures.items refl
 
 pub returns-in-Err-act-clause-err : goal.returns-in-Err-act-clause-err
 returns-in-Err-act-clause-err c =
     unapplied c.args.act c.args.book.now c.args.seat.now c.act.new.self
     (record (c.args.seat.now) { receipts = c.reserve.new.self }) c.into_event-event.result c.in-Err-act.e
     (at_home c.is_at_home.result c.is_at_home.ensures c.if-not-is_at_home.false) c.into_event-event.ensures.event
-    c.in-Err-act.ensures.err refl c.reserve.ensures.items
+    c.in-Err-act.ensures.err refl c.reserve.ensures.items refl
 
 pub returns-clause-ok : goal.returns-clause-ok
 returns-clause-ok c =
@@ -36,7 +36,7 @@ returns-clause-ok c =
     (at_home c.is_at_home.result c.is_at_home.ensures c.if-not-is_at_home.false) c.into_event-event.ensures.event c.in-Ok-act.ensures.ok
     (stamps_rise c.args.book.now.names c.args.book.now.place c.args.book.now.setup c.args.book.now.history c.args.book.now.outlets
     c.replays.ensures)
-    c.in-Ok-act.ensures.told c.into_event-event.ensures.act c.in-Ok.ensures refl c.stamp_at.ensures c.place.ensures refl refl
+    c.in-Ok-act.ensures.told c.into_event-event.ensures.act c.in-Ok.ensures refl c.stamp_at.ensures c.place.ensures refl refl refl
     c.reserve.ensures.items
     c.push.ensures (ap (λ l. length l) c.as_slice-place.ensures.items)
 

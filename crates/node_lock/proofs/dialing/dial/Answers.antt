@@ -10,18 +10,18 @@ use Rattle.node_lock.proofs.dialing.dial.Goals as goal
 
 pub returns-in-Err-clause-history : goal.returns-in-Err-clause-history
 returns-in-Err-clause-history c =
-    (dialed_not c.args.history.now c.act.new.self c.args.outlets.now.items c.args.outlets.now.items c.args.is_known c.args.peer c.args.word
+    (dialed_not c.args.history.now c.act.new.self c.args.outlets.now.items c.args.outlets.now.items c.args.is_known c.args.peer c.args.word c.args.above
     (placed c.act.result) c.act.ensures.tries c.in-Err.e (ap placed c.in-Err.is)).0
 
 pub returns-in-Err-clause-why : goal.returns-in-Err-clause-why
 returns-in-Err-clause-why c =
-    (dialed_not c.args.history.now c.act.new.self c.args.outlets.now.items c.args.outlets.now.items c.args.is_known c.args.peer c.args.word
+    (dialed_not c.args.history.now c.act.new.self c.args.outlets.now.items c.args.outlets.now.items c.args.is_known c.args.peer c.args.word c.args.above
     (placed c.act.result) c.act.ensures.tries c.in-Err.e (ap placed c.in-Err.is)).1
 
 pub returns-clause-ok : goal.returns-clause-ok
 returns-clause-ok c =
     let halves = c.in_ok-halves.halves in
-    dialed_out c.args.history.now c.act.new.self c.args.outlets.now.items c.open.new.outlets.items c.args.is_known c.args.peer c.args.word
+    dialed_out c.args.history.now c.act.new.self c.args.outlets.now.items c.open.new.outlets.items c.args.is_known c.args.peer c.args.word c.args.above
     (placed c.act.result) c.act.ensures.tries
     c.args.greatest.bytes c.in-Ok.told.place halves.ours.trunk.dialer halves.peer c.count_in-count.result (ap placed c.in-Ok.is)
     (c.in_ok-halves.ensures.dialer ∙ ap (λ (m : model.Node). m.mint.name) c.node.ensures) c.in_ok-halves.ensures.peer

@@ -11,6 +11,6 @@ invariant_of-self c =
     let e = c.dial.ensures in
     dial_kept c.books_grow.ensures.grow c.books_grow.ensures.next b.greatest.bytes b.names.items b.place b.setup b.history
     c.dial.new.history b.outlets.items c.dial.new.outlets.items
-    c.has_name-is_known.result c.args.peer c.args.word (placed c.dial.result)
+    c.has_name-is_known.result c.args.peer c.args.word c.args.above (placed c.dial.result)
     (ap (λ l. has_name c.args.peer l) (sym c.deref.ensures.value) ∙ sym c.has_name-is_known.ensures) (ok_of_placed c.dial.result _ e.ok)
     (err_of_placed c.dial.result _ e.history) (err_of_placed c.dial.result _ e.outlets) c.self.invariant

@@ -7,17 +7,17 @@ use Rattle.node_lock.proofs.book.Book.local.Goals as goal
 pub invariant_of-self : goal.invariant_of-self
 invariant_of-self c =
     let b = c.self.inside in
-    happened c.books_grow.ensures.grow b.names.items b.place b.setup b.history c.local.new.self b.outlets.items event.Local
+    happened c.books_grow.ensures.grow b.names.items b.place b.setup b.history c.local.new.self b.outlets.items event.Local 0
     c.local.result refl c.local.ensures c.self.invariant
 
 pub returns-clause-ok : goal.returns-clause-ok
 returns-clause-ok c =
     let b = c.self.inside in
     rw (← c.self.view_is) (plainly b.names.items b.place b.setup b.greatest.bytes b.history c.local.new.self b.outlets.items
-    event.Local refl c.local.result c.local.ensures)
+    event.Local 0 refl c.local.result c.local.ensures)
 
 pub returns-clause-err : goal.returns-clause-err
 returns-clause-err c =
     let b = c.self.inside in
     rw (← c.self.view_is) (plainly_not b.names.items b.place b.setup b.greatest.bytes b.history c.local.new.self
-    b.outlets.items event.Local refl c.local.result c.local.ensures)
+    b.outlets.items event.Local 0 refl c.local.result c.local.ensures)
