@@ -1,2 +1,2 @@
-pub mod Again
-pub mod OfFrames
+pub mod OneItem
+pub mod WholeItem

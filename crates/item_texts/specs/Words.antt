@@ -2,16 +2,18 @@
 -- (ERTS User's Guide, Distribution Protocol, Distribution Handshake and Protocol between Connected Nodes.)
 use Rattle.std.specs.Prelude.{ℕ, true, List, [], ◌++◌, codes}
 use Rattle.std.specs.Fmt.{decimal, digits}
-use Rattle.dist_model.specs.Items.{Handshake, Item, Signalled, Tick}
+use Rattle.dist_model.specs.Items.{Item}
 use Rattle.dist_model.specs.Names.{Name}
 use Rattle.erl_control.specs.declared.signal.Signal.{Signal}
-use Rattle.erl_control.specs.declared.signal.Item.{Item as FrameItem}
 use Rattle.erl_handshake.specs.Messages.{status_text}
 use Rattle.erl_handshake.specs.declared.message.ShakeMsg.{ShakeMsg}
 use Rattle.erl_term.specs.Data.{Data}
 use Rattle.erl_term.specs.declared.term.Pid.{Pid}
 use Rattle.erl_term.specs.declared.term.Reference.{Reference}
 use Rattle.hex.specs.Hex.{encode_upper}
+use Rattle.item_texts.specs.Reading.{read_of}
+use Rattle.item_texts.specs.declared.reading.ReadItem.{ReadItem}
+use Rattle.item_texts.specs.declared.reading.ReadItem.TheVariants as read
 use Rattle.node_frames.specs.Frames.{bytes_of}
 use Rattle.script_terms.specs.Printing.{atom_text, pid_text, reference_text, term_text}
 
@@ -34,20 +36,20 @@ abbrev pub ended : Reference → Data → List ℕ
 ended r reason = field (reference_text r) ++ field (term_text reason)
 
 -- the name of the operation, the same where the reason follows the control term
-abbrev pub operation : Signal → List ℕ
-operation (Signal.Link from to) = codes "LINK"
-operation (Signal.Send to message) = codes "SEND"
-operation (Signal.RegSend from name message) = codes "REG_SEND"
-operation (Signal.Exit from to reason) = codes "EXIT"
-operation (Signal.Exit2 from to reason) = codes "EXIT2"
-operation (Signal.Monitor from to r) = codes "MONITOR_P"
-operation (Signal.MonitorName from name r) = codes "MONITOR_P"
-operation (Signal.Demonitor from to r) = codes "DEMONITOR_P"
-operation (Signal.DemonitorName from name r) = codes "DEMONITOR_P"
-operation (Signal.MonitorExit from to r reason) = codes "MONITOR_P_EXIT"
-operation (Signal.MonitorNameExit name to r reason) = codes "MONITOR_P_EXIT"
-operation (Signal.UnlinkId id from to) = codes "UNLINK_ID"
-operation (Signal.UnlinkIdAck id from to) = codes "UNLINK_ID_ACK"
+abbrev pub operation_name : Signal → List ℕ
+operation_name (Signal.Link from to) = codes "LINK"
+operation_name (Signal.Send to message) = codes "SEND"
+operation_name (Signal.RegSend from name message) = codes "REG_SEND"
+operation_name (Signal.Exit from to reason) = codes "EXIT"
+operation_name (Signal.Exit2 from to reason) = codes "EXIT2"
+operation_name (Signal.Monitor from to r) = codes "MONITOR_P"
+operation_name (Signal.MonitorName from name r) = codes "MONITOR_P"
+operation_name (Signal.Demonitor from to r) = codes "DEMONITOR_P"
+operation_name (Signal.DemonitorName from name r) = codes "DEMONITOR_P"
+operation_name (Signal.MonitorExit from to r reason) = codes "MONITOR_P_EXIT"
+operation_name (Signal.MonitorNameExit name to r reason) = codes "MONITOR_P_EXIT"
+operation_name (Signal.UnlinkId id from to) = codes "UNLINK_ID"
+operation_name (Signal.UnlinkIdAck id from to) = codes "UNLINK_ID_ACK"
 
 -- its fields that aren't unused. Those of a signal about a monitor stand apart
 abbrev pub monitor_fields : Signal → List ℕ
@@ -70,7 +72,7 @@ fields (Signal.UnlinkIdAck id from to) = field (decimal id) ++ pids from to
 fields signal = monitor_fields signal
 
 abbrev pub signal_text : Signal → List ℕ
-signal_text signal = operation signal ++ fields signal
+signal_text signal = operation_name signal ++ fields signal
 
 abbrev pub message_name : ShakeMsg → List ℕ
 message_name (ShakeMsg.SendName flags creation name) = codes "send_name"
@@ -92,13 +94,13 @@ message_fields (ShakeMsg.ChallengeAck digest) = field (encode_upper digest)
 abbrev pub message_text : ShakeMsg → List ℕ
 message_text message = message_name message ++ message_fields message
 
-abbrev pub tick_text : List ℕ
-tick_text = codes "tick"
+abbrev pub read_text : ReadItem → List ℕ
+read_text (read.Signal signal) = signal_text signal
+read_text (read.Message message) = message_text message
+read_text read.Tick = codes "tick"
 
 abbrev pub item_text : Item → List ℕ
-item_text (Signalled signal payload) = signal_text signal
-item_text (Handshake message) = message_text message
-item_text Tick = tick_text
+item_text item = read_text (read_of item)
 
 -- an item that a node sends to a peer: the names of the two, the bytes in hex, and the words
 abbrev pub line_text : (node peer hex words : List ℕ) → List ℕ
@@ -106,8 +108,3 @@ line_text node peer hex words = codes "sent " ++ node ++ codes " " ++ peer ++ co
 
 abbrev pub sent_words : (node peer : Name) → Item → List ℕ
 sent_words node peer item = line_text node peer (encode_upper (bytes_of item)) (item_text item)
-
--- the item of a frame
-abbrev pub frame_text : FrameItem → List ℕ
-frame_text FrameItem.Tick = tick_text
-frame_text (FrameItem.Signal signal) = signal_text signal

@@ -14,8 +14,9 @@ fn put_digest(alloc: Global, out: &mut String, digest: [u8; 16]) -> Result<(), A
     write!(out, " {hex}")
 }
 
-// Returns the name of a message.
-fn message_name(message: &ShakeMsg) -> &'static str
+/// Returns the name of a message, without the `send_` of all but the first. (ERTS User's Guide, Distribution
+/// Protocol, Distribution Handshake.)
+pub fn message_name(message: &ShakeMsg) -> &'static str
     ensures { result.now ≡ message_name message.now }
 {
     match message {

@@ -1,6 +1,6 @@
 //! The words for a signal.
 ghost use Rattle.std.specs.Prelude.{◌≡◌, ◌++◌, OnOk, string_bytes};
-ghost use Rattle.item_texts.specs.Words.{ended, field, fields, monitor_fields, name_and_process, operation, pids, process_and_name, signal_text};
+ghost use Rattle.item_texts.specs.Words.{ended, field, fields, monitor_fields, name_and_process, operation_name, pids, process_and_name, signal_text};
 ghost use Rattle.script_terms.specs.Printing.{atom_text, pid_text, reference_text, term_text};
 
 use erl_control::Signal;
@@ -64,9 +64,11 @@ fn put_ended(out: &mut String, reference: &Reference, reason: &Payload) -> Resul
     put_payload(out, reason)
 }
 
-// Returns the name of a signal's operation.
-fn operation(signal: &Signal) -> &'static str
-    ensures { result.now ≡ operation signal.now }
+/// Returns the name of a signal's operation, in capitals. A signal about a process and one about a registered name
+/// have one name. So have those whose reason stands in the control term and behind it. (ERTS User's Guide,
+/// Distribution Protocol, Protocol between Connected Nodes and New Link Protocol.)
+pub fn operation_name(signal: &Signal) -> &'static str
+    ensures { result.now ≡ operation_name signal.now }
 {
     match signal {
         Signal::Link { .. } => "LINK",
@@ -174,6 +176,6 @@ fn put_fields(out: &mut String, signal: &Signal) -> Result<(), AllocError>
 pub fn put_signal(out: &mut String, signal: &Signal) -> Result<(), AllocError>
     ensures { OnOk result (string_bytes out.new ≡ string_bytes out.old ++ signal_text signal.now) }
 {
-    out.push_str(operation(signal))?;
+    out.push_str(operation_name(signal))?;
     put_fields(out, signal)
 }

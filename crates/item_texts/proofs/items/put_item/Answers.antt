@@ -1,23 +1,17 @@
-use Rattle.std.proofs.Common.{◌≡◌, ◌++◌, List, ℕ, OnOk, rules, string_bytes, Some, None, true, false}
-use Rattle.item_texts.proofs.OfFrames.{is_told, of_frame, of_message}
-use Rattle.node_frames.specs.Beginnings.{begins_message}
+use Rattle.std.proofs.Common.{◌≡◌, ◌++◌, OnOk, Some, rules, string_bytes, subst, sym}
+use Rattle.item_texts.specs.Reading.{IsRead, read_of}
+use Rattle.item_texts.specs.Words.{read_text}
+use Rattle.item_texts.specs.declared.reading.ReadItem.{ReadItem}
 use Rattle.item_texts.proofs.items.put_item.Goals as goal
 
-pub returns-in-Some-true : goal.returns-in-Some-true
-returns-in-Some-true c = λ item s b.
-    let is : begins_message c.args.bytes.now ≡ Some true = search rules in
-    of_message item c.args.bytes.now
-    (λ (text : List ℕ). OnOk c.put_shake.result (string_bytes c.put_shake.new.out ≡ string_bytes c.args.out.now ++ text)) s b is
-    c.put_shake.ensures
-
-pub returns-in-Some-false : goal.returns-in-Some-false
-returns-in-Some-false c = λ item s b.
-    let is : begins_message c.args.bytes.now ≡ Some false = search rules in
-    of_frame item c.args.bytes.now
-    (λ (text : List ℕ). OnOk c.put_frame.result (string_bytes c.put_frame.new.out ≡ string_bytes c.args.out.now ++ text)) s b is
-    c.put_frame.ensures
-
-pub returns-in-None : goal.returns-in-None
-returns-in-None c = λ item s b.
-    let is : begins_message c.args.bytes.now ≡ None = search rules in
-    absurd (is_told item c.args.bytes.now s b is)
+pub returns-in-Some : goal.returns-in-Some
+returns-in-Some c = λ item s b.
+    let bytes = c.args.bytes.now in
+    let is : IsRead bytes (Some c.in-Some.item) = search rules in
+    let sent : IsRead bytes (Some (read_of item)) =
+    subst (λ bs. IsRead bs (Some (read_of item))) (sym b) (c.one_item.ensures.sent item s) in
+    let same : Some c.in-Some.item ≡ Some (read_of item) =
+    c.one_item.ensures.once bytes (Some c.in-Some.item) (Some (read_of item)) is sent in
+    let one : c.in-Some.item ≡ read_of item = cc in
+    subst (λ (it : ReadItem). OnOk c.put_read.result (string_bytes c.put_read.new.out ≡ string_bytes c.args.out.now ++ read_text it)) one
+    c.put_read.ensures
