@@ -1,3 +1,4 @@
 pub mod Texts
 pub mod Events
+pub mod Fields
 pub mod Reports

@@ -1,5 +1,5 @@
 -- The outcome of an event, in JSON: the node's answer or refusal, and the effects of the event.
-use Rattle.std.specs.Prelude.{ℕ, List, [], Option, None, Some, Result, Ok, Err, codes, map}
+use Rattle.std.specs.Prelude.{◌≡◌, ℕ, List, [], ◌∷◌, Option, None, Some, Result, Ok, Err, codes, map}
 use Rattle.conn_core.specs.FaultNumbers.{fault_number}
 use Rattle.dist_model.specs.declared.report.Answer.{Answer}
 use Rattle.dist_model.specs.declared.report.Answer.TheVariants as answer
@@ -7,6 +7,7 @@ use Rattle.dist_model.specs.declared.report.Effect.{Effect}
 use Rattle.dist_model.specs.declared.report.Kind.{Kind}
 use Rattle.dist_model.specs.declared.report.Report.{Report}
 use Rattle.erl_handshake.specs.declared.profile.Profile.{Profile}
+use Rattle.erl_names.specs.declared.trunk.TrunkId.{TrunkId}
 use Rattle.erl_term.specs.Data as terms
 use Rattle.erl_term.specs.ErrorNumbers.{refusal_name, refusal_number}
 use Rattle.erl_term.specs.declared.refusal.Refusal.{Refusal}
@@ -16,10 +17,11 @@ use Rattle.link_core.specs.declared.end.End.{End}
 use Rattle.node_frames.specs.Frames.{Framed}
 use Rattle.node_frames.specs.Kinds.{kind_in}
 use Rattle.script_json.specs.Events.{event_data, joined_data}
+use Rattle.script_json.specs.Fields.{AreFields}
 use Rattle.script_json.specs.Texts.{connection, connection_if, monitor, payload, process}
 use Rattle.script_texts.specs.Texts.{end_text}
 use Rattle.script_texts.specs.Words.{fault_name, kind_name, swept_name}
-use Rattle.serde_json.specs.Data.{Data, array, boolean, member, no_members, null, number, object, string, unsigned}
+use Rattle.serde_json.specs.Data.{Data, array, boolean, member, no_items, no_members, null, number, object, string, unsigned}
 use Rattle.serde_json.specs.View.{items_of}
 use Rattle.serde_json.specs.Written.{compact_text}
 use Rattle.node_core.specs.declared.node_event.NodeEvent.{NodeEvent}
@@ -74,23 +76,32 @@ refusal_data refusal =
 
 -- ---- effects
 
-abbrev pub effect_data : Effect Framed → Data
-effect_data (Effect.Put to message) =
-    object (member (codes "kind") (string (codes "put")) (member (codes "message") (payload message)
-    (member (codes "to") (process to) no_members)))
-effect_data (Effect.Ended p reason) =
-    object (member (codes "kind") (string (codes "ended")) (member (codes "process") (process p)
-    (member (codes "reason") (payload reason) no_members)))
-effect_data (Effect.LinkExit p partner reason) =
-    object (member (codes "kind") (string (codes "link_exit")) (member (codes "partner") (process partner)
-    (member (codes "process") (process p) (member (codes "reason") (payload reason) no_members))))
-effect_data (Effect.Sent trunk peer frame) =
-    object (member (codes "hex") (string (encode_upper frame.bytes)) (member (codes "item") (kind_data (kind_in frame.bytes))
-    (member (codes "kind") (string (codes "sent")) (member (codes "peer") (string peer)
-    (member (codes "trunk") (connection_if trunk) no_members)))))
+-- the item that is sent, with the fields that are read from its bytes
+abbrev pub sent_data : Option TrunkId → (peer : List ℕ) → (bytes : List ℕ) → (fields : Data) → Data
+sent_data trunk peer bytes fields =
+    object (member (codes "fields") fields (member (codes "hex") (string (encode_upper bytes))
+    (member (codes "item") (kind_data (kind_in bytes)) (member (codes "kind") (string (codes "sent"))
+    (member (codes "peer") (string peer) (member (codes "trunk") (connection_if trunk) no_members))))))
 
-abbrev pub effects_data : List (Effect Framed) → Data
-effects_data effects = array (items_of (map effect_data effects))
+abbrev pub IsEffectData : Effect Framed → Data → Type 0
+IsEffectData (Effect.Put to message) effect =
+    effect ≡ object (member (codes "kind") (string (codes "put")) (member (codes "message") (payload message)
+    (member (codes "to") (process to) no_members)))
+IsEffectData (Effect.Ended p reason) effect =
+    effect ≡ object (member (codes "kind") (string (codes "ended")) (member (codes "process") (process p)
+    (member (codes "reason") (payload reason) no_members)))
+IsEffectData (Effect.LinkExit p partner reason) effect =
+    effect ≡ object (member (codes "kind") (string (codes "link_exit")) (member (codes "partner") (process partner)
+    (member (codes "process") (process p) (member (codes "reason") (payload reason) no_members))))
+IsEffectData (Effect.Sent trunk peer frame) effect =
+    (fields : Data) × AreFields frame.bytes fields × (effect ≡ sent_data trunk peer frame.bytes fields)
+
+-- the data of each, in their order
+abbrev pub AreEffects : List (Effect Framed) → List Data → Type 0
+AreEffects [] [] = Unit {0}
+AreEffects (effect ∷ effects) (told ∷ all) = IsEffectData effect told × AreEffects effects all
+AreEffects [] (told ∷ all) = ⊥
+AreEffects (effect ∷ effects) [] = ⊥
 
 -- ---- the whole
 
@@ -108,16 +119,19 @@ parts_data node line event answer effects =
     object (member (codes "answer") answer (member (codes "effects") effects (member (codes "event") event
     (member (codes "line") (number (unsigned line)) (member (codes "node") (string node) no_members)))))
 
-abbrev pub line_data : (node : List ℕ) → (line : ℕ) → (event : Data) → Result (Report Framed) Refusal → Data
-line_data node line event came = parts_data node line event (came_data came) (effects_data (brought came))
+abbrev pub IsLineData : (node : List ℕ) → (line : ℕ) → (event : Data) → Result (Report Framed) Refusal → Data → Type 0
+IsLineData node line event came told =
+    (effects : List Data) × AreEffects (brought came) effects
+    × (told ≡ parts_data node line event (came_data came) (array (items_of effects)))
 
 -- the text of a line, without its line break
-unfoldable pub line_text : (node : List ℕ) → (line : ℕ) → NodeEvent → Result (Report Framed) Refusal → List ℕ
-line_text node line event came = compact_text (line_data node line (event_data event) came)
+unfoldable pub IsLineText : (node : List ℕ) → (line : ℕ) → NodeEvent → Result (Report Framed) Refusal → List ℕ → Type 0
+IsLineText node line event came text =
+    (told : Data) × IsLineData node line (event_data event) came told × (text ≡ compact_text told)
 
 -- the same of a node that comes into the world, in its first incarnation
 abbrev pub node_data : (node : List ℕ) → (line : ℕ) → (cookie : List ℕ) → Profile → Data
-node_data node line cookie profile = parts_data node line (joined_data cookie profile) (answer_data (answer.Started 1)) (effects_data [])
+node_data node line cookie profile = parts_data node line (joined_data cookie profile) (answer_data (answer.Started 1)) (array no_items)
 
 unfoldable pub node_text : (node : List ℕ) → (line : ℕ) → (cookie : List ℕ) → Profile → List ℕ
 node_text node line cookie profile = compact_text (node_data node line cookie profile)

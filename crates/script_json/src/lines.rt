@@ -1,7 +1,7 @@
 //! A line for each event.
-ghost use Rattle.std.specs.Prelude.{◌≡◌, ◌++◌, IfOk, OnOk, codes, string_bytes};
+ghost use Rattle.std.specs.Prelude.{◌≡◌, ◌++◌, List, ℕ, IfOk, OnOk, codes, string_bytes};
 ghost use Rattle.script_json.specs.Events.{event_data};
-ghost use Rattle.script_json.specs.Reports.{brought, came_data, line_data, line_text, node_data, node_text, parts_data};
+ghost use Rattle.script_json.specs.Reports.{IsLineData, IsLineText, brought, came_data, node_data, node_text, parts_data};
 ghost use Rattle.serde_json.specs.View.{view};
 ghost use Rattle.node_core.specs.declared.node_event.NodeEvent.{NodeEvent};
 
@@ -54,7 +54,7 @@ fn line_of(
     event: Value,
     report: &Result<Report<Frame>, Refusal>,
 ) -> Result<Value, AllocError>
-    ensures { IfOk result (λ v. view v ≡ line_data node.now line (view event) report.now) }
+    ensures { IfOk result (λ v. IsLineData node.now line (view event) report.now (view v)) }
 {
     let (answer, effects) = (came(alloc, report)?, effects(alloc, brought(report))?);
     parts(alloc, node, line, event, answer, effects)
@@ -68,7 +68,7 @@ fn text(
     event: Value,
     came: &Result<Report<Frame>, Refusal>,
 ) -> Result<String, AllocError>
-    ensures { (happened : NodeEvent) → view event ≡ event_data happened → IfOk result (λ text. string_bytes text ≡ line_text node.now line happened came.now) }
+    ensures { (happened : NodeEvent) → view event ≡ event_data happened → IfOk result (λ text. IsLineText node.now line happened came.now (string_bytes text)) }
 {
     line_of(alloc, node, line, event, came)?.to_string(alloc)
 }
@@ -95,7 +95,7 @@ pub fn put_line(
     came: &Result<Report<Frame>, Refusal>,
 ) -> Result<(), AllocError>
     ensures { (happened : NodeEvent) → view event ≡ event_data happened →
-        OnOk result (string_bytes out.new ≡ string_bytes out.old ++ line_text node.now line happened came.now ++ codes "\n") }
+        OnOk result ((text : List ℕ) × IsLineText node.now line happened came.now text × (string_bytes out.new ≡ string_bytes out.old ++ text ++ codes "\n")) }
 {
     let text = text(alloc, node, line, event, came)?;
     put_text(out, text.as_str())
@@ -112,7 +112,7 @@ fn node_of(
 {
     let event = joined(alloc, cookie, profile)?;
     let answer = answer(alloc, &Answer::Started(1))?;
-    let effects = effects(alloc, &[])?;
+    let effects = Value::Array(Vec::new(alloc));
     parts(alloc, node, line, event, answer, effects)
 }
 

@@ -1,7 +1,7 @@
-use Rattle.std.proofs.Common.{◌≡◌, map, take}
-use Rattle.script_json.specs.Reports.{effect_data}
+use Rattle.std.proofs.Common.{map, take}
+use Rattle.script_json.specs.Reports.{AreEffects}
 use Rattle.serde_json.specs.View.{view}
 use Rattle.script_json.proofs.effects.effects.Given as goal
 
 abbrev pub invariant-loop-brought : goal.invariant-loop-brought
-invariant-loop-brought l = map view l.all.items ≡ map effect_data (take l.brought-index l.effects)
+invariant-loop-brought l = AreEffects (take l.brought-index l.effects) (map view l.all.items)
