@@ -42,7 +42,8 @@ fn effects_of(came: &Answered) -> &[Effect<Frame>]
     }
 }
 
-fn fault_of(answer: &Answer) -> Option<Fault>
+/// Returns the fault by which a connection broke, if that is the answer.
+pub fn fault_of(answer: &Answer) -> Option<Fault>
     ensures { result ≡ fault_of answer.now }
 {
     match answer {
@@ -69,8 +70,12 @@ fn put_broke(out: &mut String, node: &str, peer: &str, fault: Fault) -> Result<(
     writeln!(out, "broke {node} {peer} {number} {name}")
 }
 
-// Appends the line of the connection that an event broke, if it did.
-fn put_broke_in(
+/// Appends the line of the connection of a node to a peer that an event broke, if it did. Appends nothing if the
+/// trace is off.
+///
+/// # Errors
+/// [`AllocError`] if out of memory.
+pub fn put_broke_in(
     out: &mut String,
     trace: Trace,
     node: &str,

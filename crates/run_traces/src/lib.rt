@@ -11,6 +11,6 @@ mod sents;
 mod trace;
 
 pub use breaks::{Breaks, put_why};
-pub use events::{put_trace, source_of};
+pub use events::{fault_of, put_broke_in, put_trace, source_of};
 pub use sents::put_sents;
 pub use trace::Trace;
