@@ -4,3 +4,4 @@ pub mod Markup
 pub mod Figures
 pub mod Document
 pub mod Drawing
+pub mod Panels

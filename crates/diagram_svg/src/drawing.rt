@@ -12,8 +12,11 @@ use crate::style::style;
 use diagram::{Diagram, Layout, lay_out};
 use std::alloc::{AllocError, Global};
 
-// What stands in the drawing, from the back to the front.
-fn put_figures(
+/// Appends the figures of a diagram, from the back to the front.
+///
+/// # Errors
+/// [`AllocError`] if out of memory.
+pub(crate) fn put_figures(
     alloc: Global,
     out: &mut String,
     frame: Frame,

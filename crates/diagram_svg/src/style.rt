@@ -1,5 +1,7 @@
 //! The look of a drawing. Colours say nothing that words or lines don't say too.
 
+use std::alloc::{AllocError, Global};
+
 /// The style of each class of figures, in CSS, on light and on dark backgrounds.
 pub(crate) fn style() -> &'static str {
     "
@@ -41,4 +43,11 @@ text{fill:#dde5ec}
 .alarm{fill:#451a1c;stroke:#f08a8d}
 }
 "
+}
+
+/// Returns the style of a drawing of several diagrams, which has headings too.
+pub(crate) fn style_of_panels(alloc: Global) -> Result<String, AllocError> {
+    let mut text = String::from_str(alloc, style())?;
+    text.push_str(".heading{font-size:16px;font-weight:bold}\n")?;
+    Ok(text)
 }

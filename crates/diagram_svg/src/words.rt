@@ -1,6 +1,7 @@
 //! Words that have to fit into so much room.
 ghost use Rattle.std.specs.Prelude.{OnOk, string_bytes};
 ghost use Rattle.diagram_svg.specs.Markup.{Appends};
+ghost use Rattle.diagram_svg.specs.Panels.{Says};
 
 use crate::figures::{Point, put_words};
 use std::alloc::{AllocError, Global};
@@ -27,7 +28,8 @@ pub(crate) fn put_short(
     words: &str,
     most: usize,
 ) -> Result<(), AllocError>
-    ensures { OnOk result (Appends (string_bytes out.old) (string_bytes out.new)) }
+    ensures content { OnOk result (Appends (string_bytes out.old) (string_bytes out.new)) }
+    ensures says { OnOk result (Says words.now (string_bytes out.old) (string_bytes out.new)) }
 {
     let short = shortened(alloc, words, most)?;
     let tooltip = if short.as_str() == words { "" } else { words };
