@@ -1,12 +1,15 @@
 -- No line is unmet by its words alone.
-use Rattle.std.proofs.Common.{◌&&◌, ℕ, eqb, Bool, true, false, cond, List, [], ◌∷◌, length}
+use Rattle.std.proofs.Common.{◌&&◌, ℕ, ◌^◌, eqb, Bool, true, false, cond, List, [], ◌∷◌, length}
 use Rattle.std.proofs.Common.{nat_lt, Option, None, Some, Result, Ok, Err, codes}
+use Rattle.std.specs.List.{after_first, before_first}
 use Rattle.std.specs.Str.{bytes_eq, is_utf8}
+use Rattle.std.specs.Str.Parse.{digits_value}
 use Rattle.erl_names.specs.Name.{is_node_name}
 use Rattle.erl_term.specs.Data.{Data, int, atom, tuple, list, improper, binary, pid, reference}
 use Rattle.erl_term.specs.Reading.{◌>>=◌}
 use Rattle.script_lines.specs.Commands.{verb_named}
-use Rattle.script_lines.specs.Lines.{found, line_says, node_in, nodes_in, placed, process_and_term_in, processes_and_term_in, processes_in, verb_says, words_say}
+use Rattle.script_lines.specs.Connections.{is_numeral, is_slash, number_in, trunk_in, trunk_named, trunk_with}
+use Rattle.script_lines.specs.Lines.{found, line_says, node_in, nodes_and_trunk_in, nodes_in, placed, process_and_term_in, processes_and_term_in, processes_in, verb_says, words_say}
 use Rattle.script_lines.specs.Lines as lines
 use Rattle.script_lines.specs.Naming.{all_in, atom_read, demonitor_named, fault_in, formed, free_in, is_atom, is_cookie, is_term, monitor_named, names_bound}
 use Rattle.script_lines.specs.Naming.{node_formed, nodes_formed, owner_named, process_in, process_named, processes_named, profile_in, profile_named}
@@ -217,6 +220,24 @@ process_term look rest =
     then (word_and_text rest) _ (word_text rest) (λ words. then (process_named look words.0) _ (one_process look words.0) (λ p.
     then (term_read look words.1) _ (term look words.1) (λ _. tt)))
 
+numbered : (limit : ℕ) (word : List ℕ) → IsRead (number_in limit word)
+numbered limit word = pick (is_numeral word && nat_lt (digits_value 10 word) limit) (Ok (digits_value 10 word)) (Err WrongWords) tt tt
+
+trunk_there : (dialer count : List ℕ) → IsRead (trunk_with dialer count)
+trunk_there dialer count =
+    pick (is_node_name dialer) _ _ (then (number_in (2 ^ 64) count) _ (numbered (2 ^ 64) count) (λ _. tt)) tt
+
+a_trunk : (word : Option (List ℕ)) → IsRead (trunk_in word)
+a_trunk None = tt
+a_trunk (Some word) =
+    then (trunk_named word) _ (trunk_there (before_first is_slash word) (after_first is_slash word)) (λ _. tt)
+
+nodes_trunk : (rest : List ℕ) → IsRead (nodes_and_trunk_in rest)
+nodes_trunk rest =
+    then (two_words_or_three rest) _ (two_or_three rest) (λ words.
+    then (nodes_formed words.0 words.1) _ (form (is_node_name words.0 && is_node_name words.1)) (λ _.
+    then (trunk_in words.2) _ (a_trunk words.2) (λ _. tt)))
+
 all_of : (word : Option (List ℕ)) → IsRead (all_in word)
 all_of None = tt
 all_of (Some word) = pick (bytes_eq word (codes "all")) (Ok true) (Err WrongWords) tt tt
@@ -267,6 +288,10 @@ verb_read may look verb.Start rest = then (node_in rest) _ (a_node rest) (λ _. 
 verb_read may look verb.Local rest = then (node_in rest) _ (a_node rest) (λ _. tt)
 verb_read may look verb.Sweep rest = then (node_in rest) _ (a_node rest) (λ _. tt)
 verb_read may look verb.Settle rest = then (no_words rest) _ (none rest) (λ _. tt)
+verb_read may look verb.Challenge rest =
+    then (one_word rest) _ (one rest) (λ word. then (number_in (2 ^ 32) word) _ (numbered (2 ^ 32) word) (λ _. tt))
+verb_read may look verb.Lose rest = then (nodes_and_trunk_in rest) _ (nodes_trunk rest) (λ _. tt)
+verb_read may look verb.Deliver rest = then (nodes_and_trunk_in rest) _ (nodes_trunk rest) (λ _. tt)
 verb_read may look verb.Show rest =
     then (word_or_none rest) _ (only (word_of rest) (behind_word rest)) (λ word. then (all_in word) _ (all_of word) (λ _. tt))
 verb_read may look verb.Expect rest =

@@ -5,7 +5,7 @@ use Rattle.script_lines.specs.declared.command.Verb.{Verb}
 use Rattle.script_lines.specs.declared.command.Verb.TheVariants.{Node, Pair, Spawn, Send, Link, Unlink, Monitor, Demonitor}
 use Rattle.script_lines.specs.declared.command.Verb.TheVariants.{Trap, Exit, Die, Receive, Links, Alive, Monitors}
 use Rattle.script_lines.specs.declared.command.Verb.TheVariants.{Register, Unregister, WhereIs, SendName, MonitorName, Ends, Dial, Route, Travels, Why}
-use Rattle.script_lines.specs.declared.command.Verb.TheVariants.{Lose, Cut, Stop, Start, Deliver, Local, Sweep, Settle, Show, Expect}
+use Rattle.script_lines.specs.declared.command.Verb.TheVariants.{Lose, Cut, Stop, Start, Deliver, Local, Sweep, Settle, Challenge, Show, Expect}
 
 abbrev pub verb_named : List ℕ → Option Verb
 verb_named word =
@@ -42,6 +42,7 @@ verb_named word =
     else if bytes_eq word (codes "local") then Some Local
     else if bytes_eq word (codes "sweep") then Some Sweep
     else if bytes_eq word (codes "settle") then Some Settle
+    else if bytes_eq word (codes "challenge") then Some Challenge
     else if bytes_eq word (codes "show") then Some Show
     else if bytes_eq word (codes "expect") then Some Expect
     else None

@@ -1,9 +1,11 @@
 -- The meaning of a line of a script: None for a comment or a line of no word, or the reason of a bad line.
-use Rattle.std.specs.Prelude.{◌≡◌, ℕ, ◌==◌, Bool, true, false, List, [], ◌∷◌, length}
+use Rattle.std.specs.Prelude.{◌≡◌, ℕ, ◌^◌, ◌==◌, Bool, true, false, List, [], ◌∷◌, length}
 use Rattle.std.specs.Prelude.{Option, None, Some, Result, Ok, Err, nat_lt, if◌then◌else◌}
 use Rattle.std.specs.Str.{is_utf8}
 use Rattle.erl_term.specs.Reading.{◌>>=◌}
+use Rattle.erl_names.specs.declared.trunk.TrunkId.{TrunkId}
 use Rattle.script_lines.specs.Commands.{verb_named}
+use Rattle.script_lines.specs.Connections.{number_in, trunk_in}
 use Rattle.script_lines.specs.Naming.{process_named, processes_named, sender_named, monitor_named, owner_named, demonitor_named}
 use Rattle.script_lines.specs.Naming.{nodes_formed, node_formed, spawn_formed, all_in, formed, switch_named, profile_in, atom_read, term_read, names_bound}
 use Rattle.script_lines.specs.Said.{Said, said}
@@ -25,9 +27,14 @@ abbrev pub placed : Bool → Result (Unit {0}) Reason
 placed true = Ok tt
 placed false = Err WrongWords
 
--- the words behind a verb: two nodes, one node, two processes, one process, and processes with a term
+-- the words behind a verb: two nodes, two nodes and perhaps a connection, one node, two processes, one process, and processes with a term
 abbrev pub nodes_in : List ℕ → Result (List ℕ × List ℕ) Reason
 nodes_in rest = two_words rest >>= λ words. nodes_formed words.0 words.1 >>= λ _. Ok words
+
+abbrev pub nodes_and_trunk_in : List ℕ → Result (List ℕ × List ℕ × Option TrunkId) Reason
+nodes_and_trunk_in rest =
+    two_words_or_three rest >>= λ words. nodes_formed words.0 words.1 >>= λ _. trunk_in words.2 >>= λ trunk.
+    Ok (words.0, words.1, trunk)
 
 abbrev pub node_in : List ℕ → Result (List ℕ) Reason
 node_in rest = one_word rest >>= λ word. formed (is_node_name word) >>= λ _. Ok word
@@ -85,14 +92,16 @@ verb_says may look verb.Dial rest = nodes_in rest >>= λ nodes. Ok (says.Dial no
 verb_says may look verb.Route rest = nodes_in rest >>= λ nodes. Ok (says.Route nodes.0 nodes.1)
 verb_says may look verb.Travels rest = nodes_in rest >>= λ nodes. Ok (says.Travels nodes.0 nodes.1)
 verb_says may look verb.Why rest = nodes_in rest >>= λ nodes. Ok (says.Why nodes.0 nodes.1)
-verb_says may look verb.Lose rest = nodes_in rest >>= λ nodes. Ok (says.Lose nodes.0 nodes.1)
+verb_says may look verb.Lose rest = nodes_and_trunk_in rest >>= λ it. Ok (says.Lose it.0 it.1 it.2)
 verb_says may look verb.Cut rest = nodes_in rest >>= λ nodes. Ok (says.Cut nodes.0 nodes.1)
-verb_says may look verb.Deliver rest = nodes_in rest >>= λ nodes. Ok (says.Deliver nodes.0 nodes.1)
+verb_says may look verb.Deliver rest = nodes_and_trunk_in rest >>= λ it. Ok (says.Deliver it.0 it.1 it.2)
 verb_says may look verb.Stop rest = node_in rest >>= λ node. Ok (says.Stop node)
 verb_says may look verb.Start rest = node_in rest >>= λ node. Ok (says.Start node)
 verb_says may look verb.Local rest = node_in rest >>= λ node. Ok (says.Local node)
 verb_says may look verb.Sweep rest = node_in rest >>= λ node. Ok (says.Sweep node)
 verb_says may look verb.Settle rest = no_words rest >>= λ _. Ok says.Settle
+-- challenges are numbers of 32 bits
+verb_says may look verb.Challenge rest = one_word rest >>= λ word. number_in (2 ^ 32) word >>= λ number. Ok (says.Challenge number)
 verb_says may look verb.Show rest = word_or_none rest >>= λ word. all_in word >>= λ all. Ok (says.Show all)
 verb_says may look verb.Expect rest = text_at rest >>= λ words. names_bound look words >>= λ _. Ok (says.Expect words)
 

@@ -1,8 +1,11 @@
 -- The meaning of a line, without the places of its words. Terms and atoms stand as their texts.
-use Rattle.std.specs.Prelude.{ℕ, Bool, List}
+use Rattle.std.specs.Prelude.{ℕ, Bool, List, Option}
+use Rattle.std.specs.Option.{option_map}
 use Rattle.erl_handshake.specs.declared.profile.Profile.{Profile}
 use Rattle.erl_term.specs.declared.term.Pid.{Pid}
 use Rattle.erl_term.specs.declared.term.Reference.{Reference}
+use Rattle.erl_names.specs.declared.trunk.TrunkId.{TrunkId}
+use Rattle.script_lines.specs.declared.line.Connection.{Connection}
 use Rattle.script_lines.specs.declared.line.Line.{Line}
 use Rattle.script_lines.specs.declared.line.Line.TheVariants as line
 
@@ -32,16 +35,21 @@ pub data Said : Type 0 where
   Route : (node peer : List ℕ) → Said
   Travels : (node peer : List ℕ) → Said
   Why : (node peer : List ℕ) → Said
-  Lose : (node peer : List ℕ) → Said
+  Lose : (node peer : List ℕ) → Option TrunkId → Said
   Cut : (node peer : List ℕ) → Said
   Stop : (node : List ℕ) → Said
   Start : (node : List ℕ) → Said
-  Deliver : (node peer : List ℕ) → Said
+  Deliver : (node peer : List ℕ) → Option TrunkId → Said
   Local : (node : List ℕ) → Said
   Sweep : (node : List ℕ) → Said
   Settle : Said
+  Challenge : (number : ℕ) → Said
   Show : (all : Bool) → Said
   Expect : (words : List ℕ) → Said
+
+-- a connection that a word names
+abbrev pub trunk_of : Connection → TrunkId
+trunk_of it = record { dialer = it.dialer.now; count = it.count }
 
 abbrev pub said : Line → Said
 said (line.Node name cookie profile) = Node name.now cookie.now profile
@@ -69,13 +77,14 @@ said (line.Dial node peer) = Dial node.now peer.now
 said (line.Route node peer) = Route node.now peer.now
 said (line.Travels node peer) = Travels node.now peer.now
 said (line.Why node peer) = Why node.now peer.now
-said (line.Lose node peer) = Lose node.now peer.now
+said (line.Lose node peer connection) = Lose node.now peer.now (option_map trunk_of connection)
 said (line.Cut node peer) = Cut node.now peer.now
 said (line.Stop node) = Stop node.now
 said (line.Start node) = Start node.now
-said (line.Deliver node peer) = Deliver node.now peer.now
+said (line.Deliver node peer connection) = Deliver node.now peer.now (option_map trunk_of connection)
 said (line.Local node) = Local node.now
 said (line.Sweep node) = Sweep node.now
 said line.Settle = Settle
+said (line.Challenge number) = Challenge number
 said (line.Show all) = Show all
 said (line.Expect words) = Expect words.now

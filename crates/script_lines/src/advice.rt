@@ -1,5 +1,6 @@
 //! The advice on a bad line.
 use crate::advised_words::put_word;
+use crate::connections::{is_connection, number_in};
 use crate::naming::atom_read;
 use crate::places::{behind_words, column_of, first_unbound};
 use crate::reason::Reason;
@@ -86,7 +87,7 @@ fn put_wrong_words(out: &mut String, usage: &str, text: &str) -> Result<(), Allo
     if usage == "pair" {
         out.push_str(", alone, and is the first of all")?;
     }
-    put_wrong_profile(out, usage, text)?;
+    put_wrong_word(out, usage, text)?;
     if text.contains('#') {
         out.push_str("; a comment stands on a line of its own")?;
     }
@@ -96,13 +97,25 @@ fn put_wrong_words(out: &mut String, usage: &str, text: &str) -> Result<(), Allo
     put_line_end(out, text)
 }
 
-/// Appends the remedy for a word that is no profile and stands in the place of one.
-fn put_wrong_profile(out: &mut String, usage: &str, text: &str) -> Result<(), AllocError> {
+/// Returns the form of the word that a usage has in a place, if a line is bad by its words without it.
+fn form_of(wanted: &str) -> Option<&'static str> {
+    match wanted {
+        "[PROFILE]" => Some("PROFILE is 1, 2 or 3"),
+        "[CONNECTION]" => Some("CONNECTION is the name of the node that dialed, '/' and a number"),
+        "NUMBER" => Some("NUMBER is one of 0 to 4294967295"),
+        _ => None,
+    }
+}
+
+/// Appends the remedy for a word that has another form than the usage has in its place.
+fn put_wrong_word(out: &mut String, usage: &str, text: &str) -> Result<(), AllocError> {
     let words = text.split(' ').filter(|word| !word.is_empty());
     for (wanted, word) in usage.split(' ').zip(words) {
-        if wanted == "[PROFILE]" && !has_form(wanted, word) {
-            out.push_str("; PROFILE is 1, 2 or 3, not ")?;
-            put_word(out, word)?;
+        if let Some(form) = form_of(wanted) {
+            if !has_form(wanted, word) {
+                write!(out, "; {form}, not ")?;
+                put_word(out, word)?;
+            }
         }
     }
     Ok(())
@@ -114,6 +127,8 @@ fn has_form(wanted: &str, word: &str) -> bool {
         "NODE" | "PEER" | "NAME" => NodeName::fits(word),
         "COOKIE" => word.len() <= 255 && word.bytes().all(|byte| byte.is_ascii_graphic()),
         "[PROFILE]" => matches!(word, "1" | "2" | "3"),
+        "[CONNECTION]" => is_connection(word),
+        "NUMBER" => number_in(word).is_ok(),
         _ if is_text(wanted) => true,
         _ => is_name(word),
     }

@@ -71,6 +71,8 @@ pub enum Verb {
     Sweep,
     /// `settle`
     Settle,
+    /// `challenge`
+    Challenge,
     /// `show`
     Show,
     /// `expect`
@@ -116,6 +118,7 @@ impl Verb {
             "local" => Some(Verb::Local),
             "sweep" => Some(Verb::Sweep),
             "settle" => Some(Verb::Settle),
+            "challenge" => Some(Verb::Challenge),
             "show" => Some(Verb::Show),
             "expect" => Some(Verb::Expect),
             _ => None,

@@ -3,6 +3,15 @@
 use erl_handshake::Profile;
 use erl_term::{Pid, Reference};
 
+/// A connection, as a line names it: `DIALER/COUNT`.
+#[derive(Clone, Copy, Debug, PartialEq, Eq)]
+pub struct Connection<'a> {
+    /// The name of the node that dialed.
+    pub dialer: &'a str,
+    /// The number of the connection among those that the node dialed.
+    pub count: u64,
+}
+
 /// The meaning of a line. Words and terms are as they stand in the line. Nodes may be unknown. The text of
 /// a TERM is a term, and that of an ATOM an atom.
 #[derive(Clone, Copy, Debug)]
@@ -132,10 +141,11 @@ pub enum Line<'a> {
         node: &'a str,
         peer: &'a str,
     },
-    /// `lose NODE PEER`
+    /// `lose NODE PEER [CONNECTION]`
     Lose {
         node: &'a str,
         peer: &'a str,
+        connection: Option<Connection<'a>>,
     },
     /// `cut NODE PEER`
     Cut {
@@ -150,10 +160,11 @@ pub enum Line<'a> {
     Start {
         node: &'a str,
     },
-    /// `deliver NODE PEER`
+    /// `deliver NODE PEER [CONNECTION]`
     Deliver {
         node: &'a str,
         peer: &'a str,
+        connection: Option<Connection<'a>>,
     },
     /// `local NODE`
     Local {
@@ -165,6 +176,10 @@ pub enum Line<'a> {
     },
     /// `settle`
     Settle,
+    /// `challenge NUMBER`
+    Challenge {
+        number: u32,
+    },
     /// `show`, and `show all`
     Show {
         all: bool,

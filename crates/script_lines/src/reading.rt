@@ -1,12 +1,15 @@
 //! The reading of lines.
 ghost use Rattle.std.specs.Prelude.{◌≡◌};
-ghost use Rattle.script_lines.specs.Lines.{Reads, ReadsSome, line_says, node_in, nodes_in, placed, process_and_term_in, process_in, processes_and_term_in, processes_in, verb_in, verb_says, words_say};
+ghost use Rattle.std.specs.Option.{option_map};
+ghost use Rattle.script_lines.specs.Lines.{Reads, ReadsSome, line_says, node_in, nodes_and_trunk_in, nodes_in, placed, process_and_term_in, process_in, processes_and_term_in, processes_in, verb_in, verb_says, words_say};
+ghost use Rattle.script_lines.specs.Said.{trunk_of};
 ghost use Rattle.script_lines.specs.Words.{Answers, behind_word, word_of};
 ghost use Rattle.script_lines.specs.declared.command.Verb.TheVariants as verb;
 ghost use Rattle.script_terms.specs.Binding.{Look, Knows};
 
 use crate::command::Verb;
-use crate::line::Line;
+use crate::connections::{connection_in, number_in};
+use crate::line::{Connection, Line};
 use crate::naming::{
     all_in, atom_read, demonitor_named, formed, monitor_named, names_bound, node_formed,
     nodes_formed, owner_named, process_named, processes_named, profile_in, sender_named,
@@ -51,6 +54,15 @@ fn nodes_in(rest: &str) -> Result<(&str, &str), Reason>
     let (node, peer) = two_words(rest)?;
     nodes_formed(node, peer)?;
     Ok((node, peer))
+}
+
+fn nodes_and_connection_in(rest: &str) -> Result<(&str, &str, Option<Connection<'_>>), Reason>
+    ensures { Answers (λ it. (it.0.now, it.1.now, option_map trunk_of it.2)) result (nodes_and_trunk_in rest.now) }
+{
+    let (node, peer, word) = two_words_or_three(rest)?;
+    nodes_formed(node, peer)?;
+    let connection = connection_in(word)?;
+    Ok((node, peer, connection))
 }
 
 fn node_in(rest: &str) -> Result<&str, Reason>
@@ -206,6 +218,36 @@ fn monitorname_line<'a>(names: &'a Names, rest: &'a str) -> Result<Line<'a>, Rea
     })
 }
 
+fn lose_line(rest: &str) -> Result<Line<'_>, Reason>
+    ensures { (may_come : MayCome) (look : Look) → Reads (verb_says may_come look verb.Lose rest.now) result }
+{
+    let (node, peer, connection) = nodes_and_connection_in(rest)?;
+    Ok(Line::Lose {
+        node,
+        peer,
+        connection,
+    })
+}
+
+fn deliver_line(rest: &str) -> Result<Line<'_>, Reason>
+    ensures { (may_come : MayCome) (look : Look) → Reads (verb_says may_come look verb.Deliver rest.now) result }
+{
+    let (node, peer, connection) = nodes_and_connection_in(rest)?;
+    Ok(Line::Deliver {
+        node,
+        peer,
+        connection,
+    })
+}
+
+fn challenge_line(rest: &str) -> Result<Line<'_>, Reason>
+    ensures { (may_come : MayCome) (look : Look) → Reads (verb_says may_come look verb.Challenge rest.now) result }
+{
+    let word = one_word(rest)?;
+    let number = number_in(word)?;
+    Ok(Line::Challenge { number })
+}
+
 fn show_line(rest: &str) -> Result<Line<'_>, Reason>
     ensures { (may_come : MayCome) (look : Look) → Reads (verb_says may_come look verb.Show rest.now) result }
 {
@@ -268,14 +310,15 @@ fn read_verb<'a>(
         Verb::Route => nodes_in(rest).map(|(node, peer)| Line::Route { node, peer }),
         Verb::Travels => nodes_in(rest).map(|(node, peer)| Line::Travels { node, peer }),
         Verb::Why => nodes_in(rest).map(|(node, peer)| Line::Why { node, peer }),
-        Verb::Lose => nodes_in(rest).map(|(node, peer)| Line::Lose { node, peer }),
+        Verb::Lose => lose_line(rest),
         Verb::Cut => nodes_in(rest).map(|(node, peer)| Line::Cut { node, peer }),
-        Verb::Deliver => nodes_in(rest).map(|(node, peer)| Line::Deliver { node, peer }),
+        Verb::Deliver => deliver_line(rest),
         Verb::Stop => node_in(rest).map(|node| Line::Stop { node }),
         Verb::Start => node_in(rest).map(|node| Line::Start { node }),
         Verb::Local => node_in(rest).map(|node| Line::Local { node }),
         Verb::Sweep => node_in(rest).map(|node| Line::Sweep { node }),
         Verb::Settle => no_words(rest).map(|()| Line::Settle),
+        Verb::Challenge => challenge_line(rest),
         Verb::Show => show_line(rest),
         Verb::Expect => expect_line(names, rest),
     }

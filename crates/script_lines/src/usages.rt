@@ -4,7 +4,7 @@ use strsim::levenshtein;
 
 /// Each command with its words. Capitals stand for a text, brackets for an optional word, and other words
 /// for a name.
-const USAGES: [&str; 35] = [
+const USAGES: [&str; 36] = [
     "node NAME COOKIE [PROFILE]",
     "pair",
     "spawn NODE name",
@@ -30,14 +30,15 @@ const USAGES: [&str; 35] = [
     "route NODE PEER",
     "travels NODE PEER",
     "why NODE PEER",
-    "lose NODE PEER",
+    "lose NODE PEER [CONNECTION]",
     "cut NODE PEER",
     "stop NODE",
     "start NODE",
-    "deliver NODE PEER",
+    "deliver NODE PEER [CONNECTION]",
     "local NODE",
     "sweep NODE",
     "settle",
+    "challenge NUMBER",
     "show [all]",
     "expect WORDS",
 ];

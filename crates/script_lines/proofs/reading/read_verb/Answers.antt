@@ -35,3 +35,12 @@ returns-in-Expect c = λ look knows. rw c.in-Expect.is (c.expect_line.ensures c.
 
 pub returns-in-Show : goal.returns-in-Show
 returns-in-Show c = λ look knows. rw c.in-Show.is (c.show_line.ensures c.args.may_come look)
+
+pub returns-in-Lose : goal.returns-in-Lose
+returns-in-Lose c = λ look knows. rw c.in-Lose.is (c.lose_line.ensures c.args.may_come look)
+
+pub returns-in-Deliver : goal.returns-in-Deliver
+returns-in-Deliver c = λ look knows. rw c.in-Deliver.is (c.deliver_line.ensures c.args.may_come look)
+
+pub returns-in-Challenge : goal.returns-in-Challenge
+returns-in-Challenge c = λ look knows. rw c.in-Challenge.is (c.challenge_line.ensures c.args.may_come look)
