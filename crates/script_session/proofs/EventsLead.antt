@@ -17,7 +17,7 @@ use Rattle.script_lines.specs.Said as says
 use Rattle.script_lines.specs.declared.reason.Reason.{Reason}
 use Rattle.run_traces.specs.Traces.{louder}
 use Rattle.script_session.specs.Connections as connections
-use Rattle.script_session.specs.Connections.{arrives, coming_to, lose, lose_all}
+use Rattle.script_session.specs.Connections.{arrives, coming_to, leading, lose, lose_all, loses_at}
 use Rattle.script_session.specs.Connections.{lose_at, lose_live, lose_on, live_sides, is_any}
 use Rattle.script_session.specs.Pairs.{pair_nodes, pair_plays, pair_stage}
 use Rattle.script_session.specs.Session.{State, asks, does, expects, is_taken, joined, line_does}
@@ -80,6 +80,10 @@ pick false x y h k = k
 arrives_led : (coming : Result TrunkId Refusal) (name : Name) (it : Stage) → Led it → Led (arrives coming name it).stage
 arrives_led (Ok trunk) name it h = after_led it (Arrive trunk name it.word) h
 arrives_led (Err why) name it h = h
+
+lost_led : (leading : Result TrunkId Refusal) (name : Name) (it : Stage) → Led it → Led (loses_at leading name it).stage
+lost_led (Ok trunk) name it h = after_led it (Lose trunk name) h
+lost_led (Err why) name it h = h
 
 -- a look at a connection is no event
 explained_led : (o : Option Node) (name peer : Name) (it : Stage) → Led it → Led (connections.explains_at o name peer it).stage
@@ -166,11 +170,15 @@ moves_led (says.Route node peer) it h o = route_led (node_of it.world.nodes node
 moves_led (says.Monitors process) it h o = monitors_led (node_of it.world.nodes process.node) process it h
 moves_led (says.Travels node peer) it h o = travels_led (node_of it.world.nodes node) peer it h
 moves_led (says.Why node peer) it h o = explained_led (node_of it.world.nodes node) node peer it h
-moves_led (says.Lose node peer) it h o = lose_led node peer it h
+moves_led (says.Lose node peer None) it h o = lose_led node peer it h
+moves_led (says.Lose node peer (Some trunk)) it h o =
+    lost_led (leading it.world node peer trunk Refusal.NotLive) node it h
 moves_led (says.Cut node peer) it h o = lose_led peer node (lose node peer it).stage (lose_led node peer it h)
 moves_led (says.Stop node) it h o = after_led it (Stop node) h
 moves_led (says.Start node) it h o = after_led it (Start node) h
-moves_led (says.Deliver node peer) it h o = arrives_led (coming_to it.world node peer) node it h
+moves_led (says.Deliver node peer None) it h o = arrives_led (coming_to it.world node peer) node it h
+moves_led (says.Deliver node peer (Some trunk)) it h o =
+    arrives_led (leading it.world node peer trunk Refusal.NothingThere) node it h
 moves_led (says.Local node) it h o = after_led it (Local node) h
 moves_led (says.Sweep node) it h o = after_led it (Sweep node) h
 moves_led (says.Show all) it h o = show_led all it h

@@ -1,18 +1,19 @@
 -- A line for a node comes only before any other command.
-use Rattle.std.proofs.Common.{◌≡◌, ◌&&◌, ℕ, eqb, Bool, true, false, cond, not, List, [], ◌∷◌, length}
+use Rattle.std.proofs.Common.{◌≡◌, ◌&&◌, ℕ, ◌^◌, eqb, Bool, true, false, cond, not, List, [], ◌∷◌, length}
 use Rattle.std.proofs.Common.{nat_lt, Option, None, Some, Result, Ok, Err, refl, sym, ap, subst, ◌∙◌}
 use Rattle.std.specs.Str.{is_utf8}
 use Rattle.erl_term.specs.Reading.{◌>>=◌}
 use Rattle.erl_handshake.specs.declared.profile.Profile.{Profile}
 use Rattle.erl_names.specs.Name.{is_node_name}
 use Rattle.script_lines.specs.Commands.{verb_named}
-use Rattle.script_lines.specs.Lines.{found, line_says, node_in, nodes_in, placed, process_in, process_and_term_in}
+use Rattle.script_lines.specs.Connections.{number_in}
+use Rattle.script_lines.specs.Lines.{found, line_says, node_in, nodes_and_trunk_in, nodes_in, placed, process_in, process_and_term_in}
 use Rattle.script_lines.specs.Lines.{processes_in, processes_and_term_in, verb_says, words_say}
 use Rattle.script_lines.specs.Naming.{all_in, atom_read, demonitor_named, formed, monitor_named, names_bound, node_formed, process_named, profile_in}
 use Rattle.script_lines.specs.Naming.{owner_named, sender_named, spawn_formed, switch_named, term_read}
 use Rattle.script_lines.specs.Said.{Said}
 use Rattle.script_lines.specs.Said as says
-use Rattle.script_lines.specs.Words.{atom_and_text, atom_and_word, behind_word, no_words, three_words, two_words, two_words_or_three}
+use Rattle.script_lines.specs.Words.{atom_and_text, atom_and_word, behind_word, no_words, one_word, three_words, two_words, two_words_or_three}
 use Rattle.script_lines.specs.Words.{text_at, word_and_text, word_of, word_or_none, words_and_text}
 use Rattle.script_lines.specs.declared.command.Verb.{Verb}
 use Rattle.script_lines.specs.declared.command.Verb.TheVariants as verb
@@ -70,6 +71,9 @@ late may look verb.Start rest e = bind (node_in rest) _ (λ node. refl)
 late may look verb.Local rest e = bind (node_in rest) _ (λ node. refl)
 late may look verb.Sweep rest e = bind (node_in rest) _ (λ node. refl)
 late may look verb.Settle rest e = bind (no_words rest) _ (λ _. refl)
+late may look verb.Challenge rest e = bind (one_word rest) _ (λ word. bind (number_in (2 ^ 32) word) _ (λ n. refl))
+late may look verb.Lose rest e = bind (nodes_and_trunk_in rest) _ (λ it. refl)
+late may look verb.Deliver rest e = bind (nodes_and_trunk_in rest) _ (λ it. refl)
 late may look verb.Show rest e = bind (word_or_none rest) _ (λ word. bind (all_in word) _ (λ all. refl))
 late may look verb.Expect rest e = bind (text_at rest) _ (λ words. bind (names_bound look words) _ (λ _. refl))
 late may look v rest e = bind (nodes_in rest) _ (λ nodes. refl)

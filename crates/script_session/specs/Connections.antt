@@ -1,10 +1,11 @@
 -- Commands about the connections of two nodes. A node has to be known, and up.
 -- (ERTS User's Guide, Distribution Protocol; Reference Manual, Distributed Erlang.)
-use Rattle.std.specs.Prelude.{Option, None, Some, is_some, ℕ, Bool, if◌then◌else◌, List, Result, Ok, Err}
+use Rattle.std.specs.Prelude.{Option, None, Some, is_some, ℕ, Bool, not, if◌then◌else◌, List, Result, Ok, Err}
 use Rattle.std.specs.FinMap as fm
 use Rattle.std.specs.Option.{option_map}
-use Rattle.dist_model.specs.Names.{Name}
+use Rattle.dist_model.specs.Names.{Name, same_name}
 use Rattle.dist_model.specs.Node.{Node, route, side_where}
+use Rattle.dist_model.specs.Seen.{side_of_trunk}
 use Rattle.dist_model.specs.Sides.{State, is_dialing, is_up, is_waiting}
 use Rattle.dist_model.specs.World.{Arrive, Lose, World, node_of}
 use Rattle.erl_names.specs.Order.{trunk_cmp}
@@ -15,7 +16,7 @@ use Rattle.script_session.specs.Stage.{Scene, Stage, after, happens, says}
 use Rattle.script_session.specs.declared.connections.Live.{Live}
 use Rattle.script_texts.specs.Texts.{done_text, refused_text, route_text}
 use Rattle.std.specs.declared.cmp.Ordering.{Ordering}
-use Rattle.world_core.specs.Coming.{next_arrival}
+use Rattle.world_core.specs.Coming.{next_arrival, peer_on}
 use Rattle.world_texts.specs.Travelling.{travelling, travels_text}
 
 abbrev pub refuses : Refusal → Stage → Scene
@@ -41,6 +42,29 @@ arrives (Ok trunk) name stage = happens (Arrive trunk name stage.word) stage
 
 abbrev pub delivers : (node peer : Name) → Stage → Scene
 delivers node peer stage = arrives (coming_to stage.world node peer) node stage
+
+-- ---- the next item on a connection
+
+-- the connection, which has to lead to the peer, or the refusal
+abbrev pub leads_to : World → (node peer : Name) → TrunkId → Bool
+leads_to world node peer trunk = same_name (peer_on trunk (side_of_trunk world node trunk)) peer
+
+abbrev pub leading_at : Option Node → (leads : Bool) → TrunkId → (otherwise : Refusal) → Result TrunkId Refusal
+leading_at None leads trunk otherwise = Err Refusal.NothingThere
+leading_at (Some node) leads trunk otherwise =
+    if not node.up then Err Refusal.NodeDown else if leads then Ok trunk else Err otherwise
+
+abbrev pub leading : World → (node peer : Name) → TrunkId → (otherwise : Refusal) → Result TrunkId Refusal
+leading world node peer trunk otherwise = leading_at (node_of world.nodes node) (leads_to world node peer trunk) trunk otherwise
+
+-- an arrival at which nothing comes is refused by the node
+abbrev pub delivers_on : TrunkId → (node peer : Name) → Stage → Scene
+delivers_on trunk node peer stage =
+    arrives (leading stage.world node peer trunk Refusal.NothingThere) node stage
+
+abbrev pub delivers_by : Option TrunkId → (node peer : Name) → Stage → Scene
+delivers_by None node peer stage = delivers node peer stage
+delivers_by (Some trunk) node peer stage = delivers_on trunk node peer stage
 
 -- ---- the connection that is up
 
@@ -135,6 +159,19 @@ lost_text (Some why) = refused_text why
 
 abbrev pub loses : (node peer : Name) → Stage → Scene
 loses node peer stage = let lost = lose node peer stage in says (lost_text lost.refusal) lost.stage
+
+-- ---- a node loses one connection to a peer, or gives up one attempt
+
+abbrev pub loses_at : Result TrunkId Refusal → Name → Stage → Scene
+loses_at (Err why) name stage = refuses why stage
+loses_at (Ok trunk) name stage = happens (Lose trunk name) stage
+
+abbrev pub loses_on : TrunkId → (node peer : Name) → Stage → Scene
+loses_on trunk node peer stage = loses_at (leading stage.world node peer trunk Refusal.NotLive) node stage
+
+abbrev pub loses_by : Option TrunkId → (node peer : Name) → Stage → Scene
+loses_by None node peer stage = loses node peer stage
+loses_by (Some trunk) node peer stage = loses_on trunk node peer stage
 
 -- ---- at both nodes. If both refuse it, the refusal of the first is told
 

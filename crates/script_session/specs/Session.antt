@@ -22,7 +22,7 @@ use Rattle.script_lines.specs.declared.reason.Reason.{Reason}
 use Rattle.node_texts.specs.Monitors.{monitors_text}
 use Rattle.run_traces.specs.Breaks.{none_broken}
 use Rattle.run_traces.specs.declared.trace.Trace.{Trace}
-use Rattle.script_session.specs.Connections.{cuts, delivers, explains, loses, refuses, routes, travels}
+use Rattle.script_session.specs.Connections.{cuts, delivers_by, explains, loses_by, refuses, routes, travels}
 use Rattle.script_session.specs.Pairs.{pair_names, pair_stage}
 use Rattle.script_session.specs.Stage.{Scene, Stage, happens}
 use Rattle.script_session.specs.Stage as stage
@@ -31,7 +31,7 @@ use Rattle.script_session.specs.declared.made.Made.{Made}
 use Rattle.script_terms.specs.Binding.{Look, with_name}
 use Rattle.script_terms.specs.Reading.{term_of}
 use Rattle.script_terms.specs.declared.fault.TermFault.{TermFault}
-use Rattle.script_texts.specs.Texts.{answer_text, ends_text}
+use Rattle.script_texts.specs.Texts.{answer_text, done_text, ends_text}
 use Rattle.script_session.specs.Pairs.{setup_of}
 use Rattle.world_texts.specs.Shown.{shown_world, whole_world}
 use Rattle.erl_term.specs.declared.refusal.Refusal.{Refusal}
@@ -155,14 +155,15 @@ moves (says.Route node peer) it = routes node peer it
 moves (says.Monitors process) it = monitored process it
 moves (says.Travels node peer) it = travels node peer it
 moves (says.Why node peer) it = explains node peer it
-moves (says.Lose node peer) it = loses node peer it
+moves (says.Lose node peer trunk) it = loses_by trunk node peer it
 moves (says.Cut node peer) it = cuts node peer it
 moves (says.Stop node) it = happens (Stop node) it
 moves (says.Start node) it = happens (Start node) it
-moves (says.Deliver node peer) it = delivers node peer it
+moves (says.Deliver node peer trunk) it = delivers_by trunk node peer it
 moves (says.Local node) it = happens (Local node) it
 moves (says.Sweep node) it = happens (Sweep node) it
 moves says.Settle it = settles 1000000 it
+moves (says.Challenge number) it = stage.says done_text (record it { word = number })
 moves (says.Show all) it = shows all it
 moves _ it = stage.says [] it
 

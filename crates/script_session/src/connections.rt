@@ -5,19 +5,22 @@ ghost use Rattle.std.specs.Option.{option_map};
 ghost use Rattle.dist_model.specs.Node.{side_where};
 ghost use Rattle.node_core.specs.Model.{model_of};
 ghost use Rattle.node_tables.specs.Passing.{passes};
-ghost use Rattle.script_session.specs.Connections.{coming_to, cuts, delivers, explains, in_order, is_any, live_sides, lose, lose_all, lose_on, loses, routes, travels};
-ghost use Rattle.script_session.specs.Stage.{Stage as TheStage};
+ghost use Rattle.script_session.specs.Connections.{coming_to, cuts, delivers, delivers_by, delivers_on, explains, in_order, is_any, leading, leads_to, live_sides, lose, lose_all, lose_on, loses, loses_by, loses_on, routes, travels};
+ghost use Rattle.script_lines.specs.Said.{trunk_of};
+ghost use Rattle.script_session.specs.Stage.{Stage as TheStage, says};
 ghost use Rattle.script_session.specs.Stands.{IsStage, Plays};
 ghost use Rattle.script_session.specs.declared.made.Made.{Made as TheMade};
-ghost use Rattle.script_texts.specs.Texts.{refused_text};
+ghost use Rattle.script_texts.specs.Texts.{done_text, refused_text};
 
 use crate::made::Made;
 use crate::pairs::node_name;
 use crate::stage::Stage;
 use erl_names::{NodeName, TrunkId};
 use erl_term::{Atom, Refusal};
+use node_frames::same_name;
 use node_tables::Which;
 use run_traces::put_why;
+use script_lines::Connection;
 use script_texts::{put_done, put_refused, put_route};
 use std::alloc::{AllocError, Global};
 use std::cmp::Ordering;
@@ -90,6 +93,19 @@ impl Live {
     }
 }
 
+/// Returns the connection that a line names, with memory of its own.
+///
+/// # Errors
+/// [`AllocError`] if out of memory.
+pub fn trunk_of(alloc: Global, connection: Connection) -> Result<TrunkId, AllocError>
+    ensures { IfOk result (λ trunk. trunk ≡ trunk_of connection.entry) }
+{
+    Ok(TrunkId {
+        dialer: node_name(alloc, connection.dialer)?,
+        count: connection.count,
+    })
+}
+
 impl Stage {
     // Refuses the request of a line before anything happens.
     fn refuse(&mut self, alloc: Global, out: &mut String, why: Refusal) -> Result<(), AllocError>
@@ -145,6 +161,91 @@ impl Stage {
                 Ok(Made::Nothing)
             }
         }
+    }
+
+    // Returns true if a connection of a node leads to a peer.
+    fn leads_to(&self, node: &NodeName, peer: &NodeName, trunk: &TrunkId) -> bool
+        ensures { (it : TheStage) → IsStage self.now it → result ≡ leads_to it.world node.now peer.now trunk.now }
+    {
+        same_name(self.world.peer_on(node.atom(), trunk), peer.atom())
+    }
+
+    // Returns a connection of a node that leads to a peer, or the refusal. `otherwise` is the refusal of one that
+    // leads elsewhere.
+    fn leading(
+        &self,
+        node: &NodeName,
+        peer: &NodeName,
+        trunk: TrunkId,
+        otherwise: Refusal,
+    ) -> Result<TrunkId, Refusal>
+        ensures { (it : TheStage) → IsStage self.now it → result ≡ leading it.world node.now peer.now trunk otherwise }
+    {
+        match self.world.node(node.atom()) {
+            None => Err(Refusal::NothingThere),
+            Some(here) if !here.is_up() => Err(Refusal::NodeDown),
+            Some(_) if self.leads_to(node, peer, &trunk) => Ok(trunk),
+            Some(_) => Err(otherwise),
+        }
+    }
+
+    // Delivers the next item of a connection to a node.
+    fn deliver_on(
+        &mut self,
+        alloc: Global,
+        node: &str,
+        peer: &str,
+        connection: Connection,
+        out: &mut String,
+    ) -> Result<Made, AllocError>
+        ensures { (it : TheStage) → IsStage self.old it →
+            IfOk result (Plays (delivers_on (trunk_of connection.entry) node.now peer.now it) self.new (string_bytes out.old) (string_bytes out.new)) }
+    {
+        let (node, peer) = (node_name(alloc, node)?, node_name(alloc, peer)?);
+        let trunk = trunk_of(alloc, connection)?;
+        match self.leading(&node, &peer, trunk, Refusal::NothingThere) {
+            Ok(trunk) => {
+                let word = self.word;
+                self.act(alloc, node.atom(), NodeEvent::Arrive { trunk, word }, out)
+            }
+            Err(why) => {
+                self.refuse(alloc, out, why)?;
+                Ok(Made::Nothing)
+            }
+        }
+    }
+
+    /// Delivers the next item from a peer to a node, on a connection if the line names one.
+    ///
+    /// # Errors
+    /// [`AllocError`] if out of memory.
+    pub(crate) fn deliver_line(
+        &mut self,
+        alloc: Global,
+        node: &str,
+        peer: &str,
+        connection: Option<Connection>,
+        out: &mut String,
+    ) -> Result<Made, AllocError>
+        ensures { (it : TheStage) → IsStage self.old it →
+            IfOk result (Plays (delivers_by (option_map trunk_of connection.entry) node.now peer.now it) self.new (string_bytes out.old) (string_bytes out.new)) }
+    {
+        match connection {
+            Some(connection) => self.deliver_on(alloc, node, peer, connection, out),
+            None => self.deliver(alloc, node, peer, out),
+        }
+    }
+
+    /// Sets the next challenge, and prints `done`.
+    ///
+    /// # Errors
+    /// [`AllocError`] if out of memory.
+    pub(crate) fn challenge(&mut self, number: u32, out: &mut String) -> Result<(), AllocError>
+        ensures { (it : TheStage) → IsStage self.old it →
+            OnOk result (Plays (says done_text (record it { word = number })) self.new (string_bytes out.old) (string_bytes out.new) TheMade.Nothing) }
+    {
+        self.word = number;
+        put_done(out)
     }
 
     /// The connection of a node to a peer that is up.
@@ -281,6 +382,51 @@ impl Stage {
         match self.lose_at(alloc, &node, &peer)? {
             Some(why) => self.refuse(alloc, out, why),
             None => put_done(out),
+        }
+    }
+
+    // A node loses one connection to a peer, or gives up one attempt.
+    fn lose_one(
+        &mut self,
+        alloc: Global,
+        node: &str,
+        peer: &str,
+        connection: Connection,
+        out: &mut String,
+    ) -> Result<Made, AllocError>
+        ensures { (it : TheStage) → IsStage self.old it →
+            IfOk result (Plays (loses_on (trunk_of connection.entry) node.now peer.now it) self.new (string_bytes out.old) (string_bytes out.new)) }
+    {
+        let (node, peer) = (node_name(alloc, node)?, node_name(alloc, peer)?);
+        let trunk = trunk_of(alloc, connection)?;
+        match self.leading(&node, &peer, trunk, Refusal::NotLive) {
+            Ok(trunk) => self.act(alloc, node.atom(), NodeEvent::Lose(trunk), out),
+            Err(why) => {
+                self.refuse(alloc, out, why)?;
+                Ok(Made::Nothing)
+            }
+        }
+    }
+
+    /// Loses the connection of a node to a peer, and gives up its attempts at one. Loses one of these alone if
+    /// the line names it.
+    ///
+    /// # Errors
+    /// [`AllocError`] if out of memory.
+    pub(crate) fn lose_line(
+        &mut self,
+        alloc: Global,
+        node: &str,
+        peer: &str,
+        connection: Option<Connection>,
+        out: &mut String,
+    ) -> Result<Made, AllocError>
+        ensures { (it : TheStage) → IsStage self.old it →
+            IfOk result (Plays (loses_by (option_map trunk_of connection.entry) node.now peer.now it) self.new (string_bytes out.old) (string_bytes out.new)) }
+    {
+        match connection {
+            Some(connection) => self.lose_one(alloc, node, peer, connection, out),
+            None => self.lose(alloc, node, peer, out).map(|()| Made::Nothing),
         }
     }
 

@@ -17,7 +17,7 @@ mod telling;
 mod touching;
 mod turn;
 
-pub use connections::Live;
+pub use connections::{Live, trunk_of};
 pub use laws::events_lead_to_every_line;
 pub use made::Made;
 pub use pairs::{node_name, setup};

@@ -416,14 +416,23 @@ impl Stage {
             Line::Why { node, peer } => self
                 .explain(alloc, node, peer, out)
                 .map(|()| Made::Nothing),
-            Line::Lose { node, peer } => self.lose(alloc, node, peer, out).map(|()| Made::Nothing),
+            Line::Lose {
+                node,
+                peer,
+                connection,
+            } => self.lose_line(alloc, node, peer, connection, out),
             Line::Cut { node, peer } => self.cut(alloc, node, peer, out).map(|()| Made::Nothing),
             Line::Stop { node } => self.at(alloc, node, NodeEvent::Stop, out),
             Line::Start { node } => self.at(alloc, node, NodeEvent::Start, out),
-            Line::Deliver { node, peer } => self.deliver(alloc, node, peer, out),
+            Line::Deliver {
+                node,
+                peer,
+                connection,
+            } => self.deliver_line(alloc, node, peer, connection, out),
             Line::Local { node } => self.at(alloc, node, NodeEvent::Local, out),
             Line::Sweep { node } => self.at(alloc, node, NodeEvent::Sweep, out),
             Line::Settle => self.settle(alloc, out).map(|()| Made::Nothing),
+            Line::Challenge { number } => self.challenge(number, out).map(|()| Made::Nothing),
             Line::Show { all } => self.show(alloc, all, out).map(|()| Made::Nothing),
             // `play` carries these out at their node, and leaves nothing to do here
             Line::Send { .. } => Ok(Made::Nothing),

@@ -2,6 +2,7 @@
 ghost use Rattle.std.specs.Prelude.{◌≡◌, ◌+◌, ◌-◌, ◌<◌, ◌^◌, [], true, false, None, IfOk, OnOk, drop, string_bytes};
 ghost use Rattle.run_traces.specs.Breaks.{broken_by};
 ghost use Rattle.script_lines.specs.Replies.{is_met, reply_after};
+ghost use Rattle.script_lines.specs.Lines.{ReadsSome, line_says};
 ghost use Rattle.script_lines.specs.Said.{said};
 ghost use Rattle.script_session.specs.Session.{State, binds, fresh_state, is_taken, may_come, new_name, plays, starts};
 ghost use Rattle.script_session.specs.Stage.{Stage as TheStage};
@@ -188,6 +189,17 @@ impl Session {
             pair: !self.started && nodes == 0,
             node: !self.started && nodes < MOST_NODES,
         }
+    }
+
+    /// Returns the meaning of a line if it comes next, or [`None`] if it is a comment or has no words. Never
+    /// allocates.
+    ///
+    /// # Errors
+    /// The first [`Reason`] that fits, if the line is a bad one.
+    pub fn read<'a>(&'a self, line: &'a [u8]) -> Result<Option<Line<'a>>, Reason>
+        ensures { (state : State) → IsSession self.now state → ReadsSome (line_says (may_come state) state.names line.now) result }
+    {
+        read_line(self.may_come(), &self.names, line)
     }
 
     // Binds the name of a command that has run, and takes its output as the last reply.

@@ -1,6 +1,6 @@
 //! The telling of events: lines for machines, and a picture.
-ghost use Rattle.std.specs.Prelude.{◌≡◌, ◌++◌, [], true, false, IfOk, OnOk, codes, string_bytes};
-ghost use Rattle.script_json.specs.Reports.{line_text, node_text};
+ghost use Rattle.std.specs.Prelude.{◌≡◌, ◌++◌, List, ℕ, [], true, false, IfOk, OnOk, codes, string_bytes};
+ghost use Rattle.script_json.specs.Reports.{IsLineText, node_text};
 ghost use Rattle.script_session.specs.Telling.{IsTold};
 ghost use Rattle.node_core.specs.declared.node_event.NodeEvent.{NodeEvent as TheEvent};
 
@@ -103,7 +103,7 @@ impl Telling {
         came: &Result<Report<Frame>, Refusal>,
     ) -> Result<(), AllocError>
         ensures on { (happened : TheEvent) → IsTold true happened begun.event →
-            OnOk result (string_bytes self.new.lines ≡ string_bytes self.old.lines ++ line_text node.now self.old.line happened came.now ++ codes "\n") }
+            OnOk result ((text : List ℕ) × IsLineText node.now self.old.line happened came.now text × (string_bytes self.new.lines ≡ string_bytes self.old.lines ++ text ++ codes "\n")) }
         ensures off { (happened : TheEvent) → IsTold false happened begun.event → OnOk result (string_bytes self.new.lines ≡ string_bytes self.old.lines) }
         ensures same { self.new.is_on ≡ self.old.is_on }
     {
