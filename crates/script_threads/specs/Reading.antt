@@ -1,4 +1,4 @@
--- The meaning of a line if nodes have threads. Six commands are missing: threads take by themselves the items that come.
+-- The meaning of a line if nodes have threads. Seven commands are missing: threads take by themselves the items that come.
 use Rattle.std.specs.Prelude.{Option, None, Some, ℕ, Bool, true, false, List, Result, Ok, Err, if◌then◌else◌}
 use Rattle.dist_model.specs.Names.{Name}
 use Rattle.script_lines.specs.Lines.{line_says, verb_in}
@@ -18,6 +18,7 @@ is_missing (Some verb.Local) = true
 is_missing (Some verb.Travels) = true
 is_missing (Some verb.Why) = true
 is_missing (Some verb.Sweep) = true
+is_missing (Some verb.Challenge) = true
 is_missing _ = false
 
 -- only a line that is too long, or no text, has another reason before this one

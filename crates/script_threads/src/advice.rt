@@ -23,6 +23,9 @@ fn of_missing(verb: Verb) -> Option<&'static str> {
             "'why'; nodes in threads keep no faults of broken connections: a script without '--threads' shows them",
         ),
         Verb::Sweep => Some("'sweep'; nodes in threads sweep by themselves: 'settle' waits for it"),
+        Verb::Challenge => Some(
+            "'challenge'; nodes in threads draw their challenges from '--seed' on: a script without '--threads' sets them",
+        ),
         _ => None,
     }
 }

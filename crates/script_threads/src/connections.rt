@@ -7,10 +7,17 @@ use crate::threads::{Cast, NodeThreads};
 use erl_names::TrunkId;
 use erl_term::{Atom, Refusal};
 use node_lock::Act;
-use script_session::{Live, node_name};
+use script_lines::Connection;
+use script_session::{Live, Made, node_name, trunk_of};
 use script_texts::{put_done, put_refused, put_route};
 use std::alloc::{AllocError, Global};
 use std::sync::Wait;
+
+// Prints a refusal, at which nothing is made.
+fn refused(out: &mut String, why: Refusal) -> Result<Made, AllocError> {
+    put_refused(out, why)?;
+    Ok(Made::Nothing)
+}
 
 impl Running {
     // A node loses one of its connections, if there is one. It may have lost it by now.
@@ -127,6 +134,57 @@ impl NodeThreads {
         match self.lose_at(rt, alloc, node, peer)? {
             Some(why) => put_refused(out, why),
             None => put_done(out),
+        }
+    }
+
+    // Loses one connection of a node to a peer, or gives up one attempt.
+    fn lose_one<R: Wait>(
+        &mut self,
+        rt: &R,
+        alloc: Global,
+        node: &str,
+        peer: &str,
+        connection: Connection,
+        out: &mut String,
+    ) -> Result<Made, AllocError>
+        ensures nodes { nodes_of self.new.cast ≡ nodes_of self.old.cast }
+        ensures idle { is_idle self.new.cast ≡ is_idle self.old.cast }
+    {
+        let (peer, trunk) = (node_name(alloc, peer)?, trunk_of(alloc, connection)?);
+        let leads = match &self.cast {
+            Cast::Running(running) => running.leads_to(rt, node, peer.atom(), &trunk),
+            Cast::Named(_) => Err(Refusal::NothingThere),
+        };
+        match leads {
+            Ok(true) => self.act(rt, node, Act::Lose(trunk), out),
+            Ok(false) => refused(out, Refusal::NotLive),
+            Err(Refusal::OutOfMemory) => Err(AllocError),
+            Err(why) => refused(out, why),
+        }
+    }
+
+    /// Loses the connection of a node to a peer, and gives up its attempts at one. Loses one of these alone if the
+    /// line names it.
+    ///
+    /// # Errors
+    /// [`AllocError`] if out of memory.
+    pub(crate) fn lose_line<R: Wait>(
+        &mut self,
+        rt: &R,
+        alloc: Global,
+        node: &str,
+        peer: &str,
+        connection: Option<Connection>,
+        out: &mut String,
+    ) -> Result<Made, AllocError>
+        ensures nodes { nodes_of self.new.cast ≡ nodes_of self.old.cast }
+        ensures idle { is_idle self.new.cast ≡ is_idle self.old.cast }
+    {
+        match connection {
+            Some(connection) => self.lose_one(rt, alloc, node, peer, connection, out),
+            None => self
+                .lose(rt, alloc, node, peer, out)
+                .map(|()| Made::Nothing),
         }
     }
 

@@ -136,6 +136,7 @@ fn finish_running<R: Machine>(
         nodes,
         cluster,
         seats,
+        ..
     } = running;
     match cluster.finish(rt, seats) {
         Ok(finished) => Ok(put_end(alloc, out, trace, &nodes, &finished)?),

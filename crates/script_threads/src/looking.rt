@@ -51,6 +51,17 @@ fn live_at(node: &Node, peer: &Atom) -> Result<Live, Refusal>
     }
 }
 
+// Returns true if a connection of a node leads to a peer.
+fn leads_at(node: &Node, peer: &Atom, trunk: &TrunkId) -> Result<bool, Refusal> {
+    if !node.is_up() {
+        return Err(Refusal::NodeDown);
+    }
+    Ok(match node.side(trunk) {
+        Some(side) => side.peer.atom() == peer,
+        None => trunk.dialer.atom() == peer,
+    })
+}
+
 // Returns the lines that show a node.
 fn shown(alloc: Global, node: &Node) -> Result<String, Refusal>
     ensures { IfOk result (λ text. string_bytes text ≡ shown_node (model_of node.now)) }
@@ -128,6 +139,24 @@ impl Running {
             return Err(Refusal::NothingThere);
         };
         self.cluster.look(rt, place, |node| live_at(node, peer))?
+    }
+
+    /// Returns true if a connection of the node of a name leads to a peer.
+    ///
+    /// # Errors
+    /// As those of [`Running::route`].
+    pub(crate) fn leads_to<R: Wait>(
+        &self,
+        rt: &R,
+        node: &str,
+        peer: &Atom,
+        trunk: &TrunkId,
+    ) -> Result<bool, Refusal> {
+        let Some(place) = place_of(&self.nodes, node) else {
+            return Err(Refusal::NothingThere);
+        };
+        self.cluster
+            .look(rt, place, |node| leads_at(node, peer, trunk))?
     }
 
     /// How a process holds its link to another.

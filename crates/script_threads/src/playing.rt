@@ -41,9 +41,11 @@ impl NodeThreads {
             Line::Route { node, peer } => self
                 .route(rt, alloc, node, peer, out)
                 .map(|()| Made::Nothing),
-            Line::Lose { node, peer } => self
-                .lose(rt, alloc, node, peer, out)
-                .map(|()| Made::Nothing),
+            Line::Lose {
+                node,
+                peer,
+                connection,
+            } => self.lose_line(rt, alloc, node, peer, connection, out),
             Line::Cut { node, peer } => self
                 .cut(rt, alloc, node, peer, out)
                 .map(|()| Made::Nothing),
@@ -59,6 +61,7 @@ impl NodeThreads {
             Line::Deliver { .. } => Ok(Made::Nothing),
             Line::Local { .. } => Ok(Made::Nothing),
             Line::Sweep { .. } => Ok(Made::Nothing),
+            Line::Challenge { .. } => Ok(Made::Nothing),
             Line::Travels { .. } => Ok(Made::Nothing),
             Line::Why { .. } => Ok(Made::Nothing),
             // `play` carries these out at their node, and leaves nothing to do here

@@ -18,6 +18,7 @@ fn is_missing(verb: Option<Verb>) -> bool
         Some(Verb::Travels) => true,
         Some(Verb::Why) => true,
         Some(Verb::Sweep) => true,
+        Some(Verb::Challenge) => true,
         _ => false,
     }
 }

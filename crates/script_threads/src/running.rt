@@ -30,6 +30,9 @@ pub(crate) struct Running {
     pub(crate) nodes: Vec<(NodeName, Setup)>,
     pub(crate) cluster: Cluster<Open>,
     pub(crate) seats: Vec<Seat>,
+    /// The greatest stamp of the receipts. Each act comes behind it, so the acts stand in the merged run in the
+    /// order of the lines that ask for them.
+    seen: u64,
     ghost same: { cluster.nodes.items ≡ nodes.items },
     ghost some: { 0 < length nodes.items },
 }
@@ -41,6 +44,14 @@ fn seats(alloc: Global, count: usize) -> Result<Vec<Seat>, AllocError> {
         seats.push(Seat::new(alloc, place))?;
     }
     Ok(seats)
+}
+
+// Returns the greater of two stamps: that of the last receipt of a seat, and this one.
+fn last_seen(seat: &Seat, seen: u64) -> u64 {
+    match seat.last() {
+        Some(asked) if seen < asked.receipt.stamp => asked.receipt.stamp,
+        _ => seen,
+    }
 }
 
 // Returns the thing that an answer has made, if a name may be bound to it.
@@ -129,6 +140,7 @@ impl Running {
                 nodes,
                 cluster,
                 seats,
+                seen: 0,
             }),
             Err(_) => Err(AllocError),
         }
@@ -149,7 +161,10 @@ impl Running {
     {
         if let Some(place) = place_of(&self.nodes, node) {
             if let Some(seat) = self.seats.get_mut(place) {
-                return act(rt, &self.cluster, seat, node, asked, out);
+                seat.follow(self.seen);
+                let made = act(rt, &self.cluster, seat, node, asked, out);
+                self.seen = last_seen(seat, self.seen);
+                return made;
             }
         }
         drop(asked);
@@ -166,7 +181,10 @@ impl Running {
     {
         if let Some(place) = place_of(&self.nodes, node) {
             if let Some(seat) = self.seats.get_mut(place) {
-                return match self.cluster.call(rt, seat, asked) {
+                seat.follow(self.seen);
+                let called = self.cluster.call(rt, seat, asked);
+                self.seen = last_seen(seat, self.seen);
+                return match called {
                     Err(Refusal::OutOfMemory) => Err(AllocError),
                     _ => Ok(()),
                 };
