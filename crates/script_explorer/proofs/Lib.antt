@@ -1,2 +1,5 @@
 mod Led
 mod Whole
+mod OneMore
+mod Alike
+mod Summary

@@ -4,7 +4,7 @@ use Rattle.std.proofs.lemmas.List.{drop-map, length-map}
 use Rattle.run_traces.specs.declared.trace.Trace.{Trace}
 use Rattle.script_explorer.proofs.Led.{bytes_of}
 use Rattle.script_explorer.specs.Printed.{Ran}
-use Rattle.script_explorer.specs.Replays.{Ends, Replays}
+use Rattle.script_explorer.specs.Replays.{Ends, Replays, RunsThrough}
 use Rattle.script_explorer.specs.declared.replaying.Replayed.{Replayed}
 use Rattle.script_session.specs.Running.{LeadsTo}
 use Rattle.script_session.specs.Session.{State, fresh_state}
@@ -26,14 +26,9 @@ ran_whole from lines it n r =
     (sym (r.parts ∙ ap (λ (rest : List (List ℕ)). r.ran ++ rest) (nothing_left r.last r.rest it.stop r.ends n) ∙ append-nil r.ran))
     r.led
 
-abbrev pub ran : (seed : ℕ) (lines : List (Vec ℕ Global)) (it : Replayed) → is_some it.stop ≡ false
-    → Replays (fresh_state Trace.Off seed) (map bytes_of lines) it → Ran seed
-ran seed lines it n r = record {
-  lines = map bytes_of lines;
-  texts = map string_bytes it.texts.items;
-  last = r.last;
-  led = ran_whole (fresh_state Trace.Off seed) (map bytes_of lines) it n r;
-}
+abbrev pub ran : (seed : ℕ) (lines : List (Vec ℕ Global)) (it : Replayed)
+    → RunsThrough (fresh_state Trace.Off seed) (map bytes_of lines) it → Ran seed
+ran seed lines it r = record { lines = map bytes_of lines; texts = map string_bytes it.texts.items; last = r.last; led = r.led }
 
 -- the last texts as bytes
 pub last_texts : (texts : List (String Global)) (count : ℕ)

@@ -1,9 +1,9 @@
 -- The outcomes of an exploration, as they are printed.
-use Rattle.std.specs.Prelude.{◌≡◌, ℕ, ◌-◌, List, [], ◌∷◌, ◌++◌, Option, None, Some, is_some, Err, codes, drop, length}
+use Rattle.std.specs.Prelude.{◌≡◌, ℕ, ◌+◌, ◌-◌, List, [], ◌∷◌, ◌++◌, Option, None, Some, is_some, Err, codes, drop, length}
 use Rattle.std.specs.List.{flat_map}
 use Rattle.run_traces.specs.declared.trace.Trace.{Trace}
 use Rattle.script_explorer.specs.declared.explored.Explored.{Explored}
-use Rattle.script_explorer.specs.Texts.{comments, heading_text, script_text, unmet_heading}
+use Rattle.script_explorer.specs.Texts.{IsSummary, comments, heading_text, script_text, unmet_heading}
 use Rattle.script_lines.specs.declared.reason.Reason.{Reason}
 use Rattle.script_session.specs.Running.{LeadsTo}
 use Rattle.script_session.specs.Session.{State, fresh_state, line_does}
@@ -29,6 +29,11 @@ shown_text it =
     ++ flat_map comments (drop (length it.ran.texts - it.questions) it.ran.texts)
     ++ script_text it.ran.lines
 
+-- outcomes have the numbers from the first on, and each tells the number of all
+abbrev pub AreNumbered : {seed : ℕ} → (first all : ℕ) → List (Shown seed) → Type 0
+AreNumbered first all [] = Unit {0}
+AreNumbered first all (it ∷ others) = (it.number ≡ first) × (it.all ≡ all) × AreNumbered (first + 1) all others
+
 -- an expectation that isn't met: the number of its line in the script with blocks, and the plain script before it
 pub record Unmet (seed : ℕ) : Type 0 where
   pub number : ℕ
@@ -51,10 +56,12 @@ abbrev pub unmet_texts : {seed : ℕ} → Option (Unmet seed) → List ℕ
 unmet_texts None = []
 unmet_texts (Some unmet) = unmet_text unmet
 
--- how many states there are, then the outcomes, then an expectation that isn't met, if there is one
+-- how many states and outcomes there are, then the outcomes, then an expectation that isn't met, if there is one
 pub record IsExplored (seed : ℕ) (it : Explored) : Type 0 where
   pub summary : List ℕ
   pub shown : List (Shown seed)
+  pub summed : IsSummary (length shown) summary
+  pub numbered : AreNumbered 1 (length shown) shown
   pub unmet : Option (Unmet seed)
-  pub text : it.text.items ≡ summary ++ shown_texts shown ++ unmet_texts unmet
+  pub text : it.text.items ≡ codes "# " ++ summary ++ codes "\n" ++ shown_texts shown ++ unmet_texts unmet
   pub told : is_some it.unmet ≡ is_some unmet

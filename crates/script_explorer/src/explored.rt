@@ -1,17 +1,20 @@
 //! The text of an exploration.
-ghost use Rattle.std.specs.Prelude.{◌≡◌, ◌++◌, IfOk, List, OnOk, Option, is_some};
-ghost use Rattle.script_explorer.specs.Printed.{IsExplored, Shown, Unmet, shown_texts, unmet_texts};
+ghost use Rattle.std.specs.Prelude.{◌≡◌, ◌++◌, IfOk, List, OnOk, Option, codes, is_some, length, string_bytes, ℕ};
+ghost use Rattle.script_explorer.specs.Printed.{AreNumbered, IsExplored, Shown, Unmet, shown_texts, unmet_texts};
+ghost use Rattle.script_explorer.specs.Texts.{IsSummary, bound_text, counts_text, unvisited_text};
 
+use crate::paths::{OutcomeScript, Scripts, UnmetScript};
 use crate::plan::Plan;
 use crate::printing::{put_outcome, put_unmet};
 use crate::search::Exploration;
 use crate::state::{Halt, run_lines};
-use crate::texts::{Heading, put_count};
+use crate::texts::{Heading, put, put_count};
 use run_traces::Trace;
 use script_session::Session;
 use std::alloc::{AllocError, Global};
 
-/// The text of an exploration, and the number of the first line that expects another reply than some order gives.
+/// The text or the drawing of an exploration, and the number of the first line that expects another reply than
+/// some order gives.
 #[derive(Drop)]
 pub struct Explored {
     /// The outcomes, each with its shortest script.
@@ -20,18 +23,50 @@ pub struct Explored {
     pub unmet: Option<u64>,
 }
 
-// Returns how many states were visited, and how many outcomes they have.
-fn summary(alloc: Global, found: &Exploration<'_, '_>) -> Result<String, AllocError> {
-    let mut text = String::from_str(alloc, "# ")?;
-    put_count(&mut text, found.states() as u64, "state")?;
-    text.push_str(", ")?;
-    put_count(&mut text, found.outcomes.found.len() as u64, "outcome")?;
-    if found.is_bounded {
-        text.push_str("; states behind ")?;
-        put_count(&mut text, found.most(), "step")?;
-        text.push_str(" were not visited")?;
+// Appends the words of a bound of so many steps.
+fn put_steps(out: &mut String, most: u64) -> Result<(), AllocError>
+    ensures { OnOk result (string_bytes out.new ≡ string_bytes out.old ++ unvisited_text most) }
+{
+    out.push_str("; states behind ")?;
+    put_count(out, most, "step")?;
+    out.push_str(" were not visited")
+}
+
+// Appends the steps behind which no state was visited, if there are any.
+fn put_bound(out: &mut String, is_bounded: bool, most: u64) -> Result<(), AllocError>
+    ensures { OnOk result (string_bytes out.new ≡ string_bytes out.old ++ bound_text is_bounded most) }
+{
+    if is_bounded {
+        put_steps(out, most)
+    } else {
+        Ok(())
     }
-    text.push_str("\n")?;
+}
+
+// Returns the counts of states and of outcomes.
+fn counts(alloc: Global, states: usize, outcomes: usize) -> Result<String, AllocError>
+    ensures { IfOk result (λ text. string_bytes text ≡ counts_text states outcomes) }
+{
+    let mut text = String::new(alloc);
+    put_count(&mut text, states as u64, "state")?;
+    text.push_str(", ")?;
+    put_count(&mut text, outcomes as u64, "outcome")?;
+    Ok(text)
+}
+
+/// Returns how many states were visited, and how many outcomes they have.
+///
+/// # Errors
+/// [`AllocError`] if out of memory.
+pub(crate) fn summary(
+    alloc: Global,
+    found: &Exploration<'_, '_>,
+    outcomes: usize,
+) -> Result<String, AllocError>
+    ensures { IfOk result (λ text. IsSummary outcomes (string_bytes text)) }
+{
+    let mut text = counts(alloc, found.states(), outcomes)?;
+    put_bound(&mut text, found.is_bounded, found.most())?;
     Ok(text)
 }
 
@@ -40,25 +75,19 @@ fn put_outcomes(
     alloc: Global,
     out: &mut Vec<u8>,
     seed: u32,
-    found: &Exploration<'_, '_>,
+    scripts: &[OutcomeScript],
+    questions: usize,
 ) -> Result<(), Halt>
-    ensures { OnOk result ((shown : List (Shown seed)) × (out.new.items ≡ out.old.items ++ shown_texts shown)) }
+    ensures { OnOk result ((shown : List (Shown seed)) × (length shown ≡ length scripts.now) × AreNumbered 1 (length scripts.now) shown × (out.new.items ≡ out.old.items ++ shown_texts shown)) }
 {
-    let (all, questions) = (
-        found.outcomes.found.len() as u64,
-        found.plan().questions.len(),
-    );
-    let mut number = 0u64;
-    for leading in found.outcomes.found.values() {
-        number = number.saturating_add(1);
-        let path = found.path_to(alloc, leading.place)?;
+    for (place, script) in scripts.iter().enumerate() {
         let heading = Heading {
-            number,
-            all,
-            states: leading.states,
+            number: place as u64 + 1,
+            all: scripts.len() as u64,
+            states: script.states,
             questions,
         };
-        put_outcome(alloc, out, seed, &heading, &path.lines)?;
+        put_outcome(alloc, out, seed, &heading, &script.lines)?;
     }
     Ok(())
 }
@@ -68,17 +97,27 @@ fn put_broken(
     alloc: Global,
     out: &mut Vec<u8>,
     seed: u32,
-    found: &Exploration<'_, '_>,
+    script: &Option<UnmetScript>,
     advice: &mut String,
 ) -> Result<Option<u64>, Halt>
     ensures { IfOk result (λ number. (unmet : Option (Unmet seed)) × (out.new.items ≡ out.old.items ++ unmet_texts unmet) × (is_some unmet ≡ is_some number)) }
 {
-    let Some(broken) = found.outcomes.broken else {
+    let Some(script) = script else {
         return Ok(None);
     };
-    let path = found.path_to_broken(alloc, &broken)?;
-    put_unmet(alloc, out, seed, broken.number, &path.lines, advice)?;
-    Ok(Some(broken.number))
+    put_unmet(alloc, out, seed, script.number, &script.lines, advice)?;
+    Ok(Some(script.number))
+}
+
+// Returns the first line of the text, with a summary.
+fn first_line(alloc: Global, summary: &str) -> Result<Vec<u8>, AllocError>
+    ensures { IfOk result (λ text. text.items ≡ codes "# " ++ summary.now ++ codes "\n") }
+{
+    let mut text = Vec::new(alloc);
+    put(&mut text, "# ")?;
+    put(&mut text, summary)?;
+    put(&mut text, "\n")?;
+    Ok(text)
 }
 
 // Returns the text of an exploration.
@@ -90,11 +129,41 @@ fn text_of(
 ) -> Result<Explored, Halt>
     ensures { IfOk result (λ explored. IsExplored seed explored) }
 {
-    let mut text = Vec::new(alloc);
-    text.extend_from_slice(summary(alloc, found)?.as_bytes())?;
-    put_outcomes(alloc, &mut text, seed, found)?;
-    let unmet = put_broken(alloc, &mut text, seed, found, advice)?;
+    let Scripts { outcomes, unmet } = found.scripts(alloc)?;
+    let summary = summary(alloc, found, outcomes.len())?;
+    let mut text = first_line(alloc, summary.as_str())?;
+    let questions = found.plan().questions.len();
+    put_outcomes(alloc, &mut text, seed, &outcomes, questions)?;
+    let unmet = put_broken(alloc, &mut text, seed, &unmet, advice)?;
     Ok(Explored { text, unmet })
+}
+
+/// Explores a plan, up to `most` steps behind its beginning. `seed` is the first challenge of the handshakes. Puts
+/// the fault of a line that is a bad one behind `advice`.
+///
+/// # Errors
+/// As of [`explore`].
+pub(crate) fn exploration_of<'p, 'a>(
+    alloc: Global,
+    plan: &'p Plan<'a>,
+    seed: u32,
+    most: u64,
+    advice: &mut String,
+) -> Result<Exploration<'p, 'a>, Halt> {
+    let mut session = Session::new(alloc, Trace::Off, seed);
+    let mut unseen = String::new(alloc);
+    let begun = run_lines(alloc, &mut session, &plan.beginning, &mut unseen);
+    if let Err(halt) = begun {
+        put_advice(alloc, advice, plan, &session, halt)?;
+        return Err(halt);
+    }
+    match Exploration::of(alloc, plan, session.copy(alloc)?, most) {
+        Ok(found) => Ok(found),
+        Err(halt) => {
+            put_advice(alloc, advice, plan, &session, halt)?;
+            Err(halt)
+        }
+    }
 }
 
 /// Explores a plan, up to `most` steps behind its beginning, and returns the text of all outcomes. Each is printed
@@ -113,20 +182,7 @@ pub fn explore(
 ) -> Result<Explored, Halt>
     ensures { IfOk result (λ explored. IsExplored seed explored) }
 {
-    let mut session = Session::new(alloc, Trace::Off, seed);
-    let mut unseen = String::new(alloc);
-    let begun = run_lines(alloc, &mut session, &plan.beginning, &mut unseen);
-    if let Err(halt) = begun {
-        put_advice(alloc, advice, plan, &session, halt)?;
-        return Err(halt);
-    }
-    let found = match Exploration::of(alloc, plan, session.copy(alloc)?, most) {
-        Ok(found) => found,
-        Err(halt) => {
-            put_advice(alloc, advice, plan, &session, halt)?;
-            return Err(halt);
-        }
-    };
+    let found = exploration_of(alloc, plan, seed, most, advice)?;
     text_of(alloc, seed, &found, advice)
 }
 

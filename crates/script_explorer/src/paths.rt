@@ -12,6 +12,33 @@ pub(crate) struct Path {
     pub(crate) lines: Vec<Vec<u8>>,
 }
 
+/// The shortest script that leads to an outcome.
+#[derive(Debug, Drop)]
+pub(crate) struct OutcomeScript {
+    /// The number of the states that lead to the outcome.
+    pub(crate) states: u64,
+    /// Its lines, of which the last are the questions.
+    pub(crate) lines: Vec<Vec<u8>>,
+}
+
+/// The shortest script that leads to an expectation that isn't met.
+#[derive(Debug, Drop)]
+pub(crate) struct UnmetScript {
+    /// The number of its line in the script with blocks, from 1.
+    pub(crate) number: u64,
+    /// Its lines, of which the last is the expectation.
+    pub(crate) lines: Vec<Vec<u8>>,
+}
+
+/// The shortest scripts that an exploration has found.
+#[derive(Debug, Drop)]
+pub(crate) struct Scripts {
+    /// Those of its outcomes, in the order in which these were found.
+    pub(crate) outcomes: Vec<OutcomeScript>,
+    /// That of the first expectation that isn't met, if there is one.
+    pub(crate) unmet: Option<UnmetScript>,
+}
+
 // Returns a copy of some bytes.
 fn copied(alloc: Global, bytes: &[u8]) -> Result<Vec<u8>, AllocError> {
     let mut copy = Vec::new(alloc);
@@ -90,20 +117,16 @@ impl Exploration<'_, '_> {
         Ok(path)
     }
 
-    /// Returns the lines that lead to the state at a place, and ask the questions.
-    pub(crate) fn path_to(&self, alloc: Global, place: usize) -> Result<Path, AllocError> {
+    // Returns the lines that lead to the state at a place, and ask the questions.
+    fn path_to(&self, alloc: Global, place: usize) -> Result<Path, AllocError> {
         let moves = self.moves_to(alloc, place)?;
         let mut path = self.path_of(alloc, &moves, 0)?;
         path.add(alloc, &self.plan().questions, 0)?;
         Ok(path)
     }
 
-    /// Returns the lines that lead to an expectation that isn't met.
-    pub(crate) fn path_to_broken(
-        &self,
-        alloc: Global,
-        broken: &Broken,
-    ) -> Result<Path, AllocError> {
+    // Returns the lines that lead to an expectation that isn't met.
+    fn path_to_broken(&self, alloc: Global, broken: &Broken) -> Result<Path, AllocError> {
         let mut moves = self.moves_to(alloc, broken.place)?;
         if let Some(by) = broken.by {
             moves.push(by)?;
@@ -112,5 +135,30 @@ impl Exploration<'_, '_> {
         let mut path = self.path_of(alloc, &moves, 0)?;
         path.add(alloc, &self.plan().questions, broken.number)?;
         Ok(path)
+    }
+
+    // Returns the script of the expectation that isn't met, if there is one.
+    fn unmet_script(&self, alloc: Global) -> Result<Option<UnmetScript>, AllocError> {
+        let Some(broken) = self.outcomes.broken else {
+            return Ok(None);
+        };
+        let Path { lines } = self.path_to_broken(alloc, &broken)?;
+        let number = broken.number;
+        Ok(Some(UnmetScript { number, lines }))
+    }
+
+    /// Returns the shortest scripts.
+    ///
+    /// # Errors
+    /// [`AllocError`] if out of memory.
+    pub(crate) fn scripts(&self, alloc: Global) -> Result<Scripts, AllocError> {
+        let mut outcomes = Vec::new(alloc);
+        for leading in self.outcomes.found.values() {
+            let Path { lines } = self.path_to(alloc, leading.place)?;
+            let states = leading.states;
+            outcomes.push(OutcomeScript { states, lines })?;
+        }
+        let unmet = self.unmet_script(alloc)?;
+        Ok(Scripts { outcomes, unmet })
     }
 }

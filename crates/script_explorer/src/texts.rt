@@ -1,7 +1,7 @@
 //! The parts of the text of an exploration.
 ghost use Rattle.std.specs.Prelude.{◌≡◌, ◌++◌, OnOk, map, string_bytes};
 ghost use Rattle.std.specs.List.{flat_map};
-ghost use Rattle.script_explorer.specs.Texts.{comments, count_text, heading_text, script_text, unmet_heading};
+ghost use Rattle.script_explorer.specs.Texts.{comments, count_text, heading_text, number_text, script_text, unmet_heading, unmet_number_text};
 
 use std::alloc::{AllocError, Global};
 
@@ -82,6 +82,23 @@ pub(crate) fn put_script(out: &mut Vec<u8>, lines: &[Vec<u8>]) -> Result<(), All
     Ok(())
 }
 
+/// Appends the number of an outcome, and that of the states that lead to it.
+///
+/// # Errors
+/// [`AllocError`] if out of memory.
+pub(crate) fn put_number(out: &mut String, heading: &Heading) -> Result<(), AllocError>
+    ensures { OnOk result (string_bytes out.new ≡ string_bytes out.old ++ number_text heading.now.number heading.now.all heading.now.states) }
+{
+    let Heading {
+        number,
+        all,
+        states,
+        ..
+    } = *heading;
+    write!(out, "outcome {number} of {all}, in ")?;
+    put_count(out, states, "state")
+}
+
 /// Appends the first line of an outcome.
 ///
 /// # Errors
@@ -93,17 +110,20 @@ pub(crate) fn put_heading(
 ) -> Result<(), AllocError>
     ensures { OnOk result (out.new.items ≡ out.old.items ++ heading_text heading.now.number heading.now.all heading.now.states) }
 {
-    let Heading {
-        number,
-        all,
-        states,
-        ..
-    } = *heading;
-    let mut text = String::new(alloc);
-    write!(text, "\n# outcome {number} of {all}, in ")?;
-    put_count(&mut text, states, "state")?;
+    let mut text = String::from_str(alloc, "\n# ")?;
+    put_number(&mut text, heading)?;
     text.push_str(":\n")?;
     put(out, text.as_str())
+}
+
+/// Appends the words that tell of an expectation that isn't met, by the number of its line.
+///
+/// # Errors
+/// [`AllocError`] if out of memory.
+pub(crate) fn put_unmet_number(out: &mut String, number: u64) -> Result<(), AllocError>
+    ensures { OnOk result (string_bytes out.new ≡ string_bytes out.old ++ unmet_number_text number) }
+{
+    write!(out, "line {number} is not met in this order")
 }
 
 /// Appends the heading of an expectation that isn't met, and the advice on it.
@@ -118,8 +138,9 @@ pub(crate) fn put_unmet_heading(
 ) -> Result<(), AllocError>
     ensures { OnOk result (out.new.items ≡ out.old.items ++ unmet_heading number ++ comments advice.now) }
 {
-    let mut text = String::new(alloc);
-    writeln!(text, "\n# line {number} is not met in this order:")?;
+    let mut text = String::from_str(alloc, "\n# ")?;
+    put_unmet_number(&mut text, number)?;
+    text.push_str(":\n")?;
     put(out, text.as_str())?;
     put_comments(out, advice)
 }

@@ -1,18 +1,17 @@
 use Rattle.std.proofs.Common.{◌≡◌, ℕ, ◌+◌, [], ◌∷◌, List, ◌++◌, Global, Vec, Ok, Some, ap, arith, append-nil, drop, map, refl, rules, string_bytes, is_some, subst, sym, take, take_all, true≢false, ◌∙◌}
 use Rattle.std.proofs.lemmas.List.{map-append}
-use Rattle.run_traces.specs.declared.trace.Trace.{Trace}
 use Rattle.script_explorer.proofs.Led.{bytes_of, led_more, one_more, parted, stopped}
 use Rattle.script_explorer.specs.Replays.{Ends}
 use Rattle.script_session.specs.Running.{LeadsTo}
-use Rattle.script_session.specs.Session.{fresh_state, line_does}
-use Rattle.script_explorer.proofs.replaying.replay.Goals as goal
+use Rattle.script_session.specs.Session.{line_does}
+use Rattle.script_explorer.proofs.replaying.run_all.Goals as goal
 
 pub loop-line-init : goal.loop-line-init
-loop-line-init c = (fresh_state Trace.Off c.args.seed, (ap (map string_bytes) c.new-texts.ensures.items, refl), c.new-session.ensures)
+loop-line-init c = λ from is. (from, (ap (map string_bytes) c.new-texts.ensures.items, refl), is)
 
 pub returns-in-Err-2 : goal.returns-in-Err-2
-returns-in-Err-2 c =
-    let was = c.loop-line.invariant in
+returns-in-Err-2 c = λ from is.
+    let was = c.loop-line.invariant from is in
     let lines = c.args.lines.now in
     let item = c.line-item.result in
     let index = c.loop-line.line-index in
@@ -24,19 +23,18 @@ returns-in-Err-2 c =
       led = was.1;
       ends = subst (λ (line : List ℕ). Ends was.0 (line ∷ map bytes_of (drop (index + 1) lines)) (Some c.in-Err.stop)) c.deref.ensures.value
           (stopped was.0 c.deref.result.now (map bytes_of (drop (index + 1) lines)) c.line.new.self (string_bytes c.new-text.result)
-          (string_bytes c.line.new.out) c.in-Err.stop (search rules) (c.in-Err.ensures was.0 was.2));
+          (string_bytes c.line.new.out) c.in-Err.stop (search rules) (c.in-Err.ensures was.0 (c.count_line.ensures.state was.0 was.2)));
       session = λ whole. absurd (true≢false (ap is_some whole));
     }
 
 pub loop-line-preserved : goal.loop-line-preserved
-loop-line-preserved c =
-    let was = c.loop-line.invariant in
-    let from = fresh_state Trace.Off c.args.seed in
+loop-line-preserved c = λ from is.
+    let was = c.loop-line.invariant from is in
     let lines = c.args.lines.now in
     let item = c.line-item.result in
     let index = c.loop-line.line-index in
     let texts : List (List ℕ) = map string_bytes c.loop-line.texts.items in
-    let steps = c.in-Ok.ensures was.0 was.2 in
+    let steps = c.in-Ok.ensures was.0 (c.count_line.ensures.state was.0 was.2) in
     let text = steps.step.text in
     let pushed : map string_bytes c.push.new.self.items ≡ texts ++ text ∷ [] =
     ap (map string_bytes) c.in_ok-push-in-Ok.ensures.items
@@ -51,15 +49,15 @@ loop-line-preserved c =
     (steps.step.state, subst (λ (t : List (List ℕ)). LeadsTo from (map bytes_of (take (index + 1) lines)) t steps.step.state) (sym pushed) more, steps.state)
 
 pub returns : goal.returns
-returns c =
-    let was = c.loop-line.invariant in
+returns c = λ from is.
+    let was = c.loop-line.invariant from is in
     let lines = c.args.lines.now in
     record {
       ran = map bytes_of lines;
       rest = [];
       parts = sym (append-nil (map bytes_of lines));
       last = was.0;
-      led = subst (λ (l : List (Vec ℕ Global)). LeadsTo (fresh_state Trace.Off c.args.seed) (map bytes_of l) (map string_bytes c.loop-line.texts.items) was.0)
+      led = subst (λ (l : List (Vec ℕ Global)). LeadsTo from (map bytes_of l) (map string_bytes c.loop-line.texts.items) was.0)
           (take_all c.loop-line.line-index lines (omega arith)) was.1;
       ends = tt;
       session = λ whole. was.2;
