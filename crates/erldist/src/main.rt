@@ -9,8 +9,8 @@
 use clap::Error;
 use clap::error::ErrorKind;
 use script_core::{
-    CommandLine, Form, FusedWriter, Machine, Options, Outcome, STANDARD_INPUT, Tally, put_result,
-    read_options, run_drawing, run_exploring, run_script, run_telling, run_threads,
+    CommandLine, Form, FusedWriter, LineRange, Machine, Options, Outcome, STANDARD_INPUT, Tally,
+    put_result, read_options, run_drawing, run_exploring, run_script, run_telling, run_threads,
 };
 use std::alloc::Global;
 use std::fs;
@@ -33,7 +33,10 @@ fn run<M: Machine, R: Read, W: Write>(
     match options.form {
         Form::Text => run_script(alloc, reader, writer, options, advice),
         Form::Events => run_telling(alloc, reader, writer, options, advice),
-        Form::Picture(lines) => run_drawing(alloc, reader, writer, options, lines, advice),
+        Form::Picture(lines) => {
+            let lines = lines.unwrap_or(LineRange::all());
+            run_drawing(alloc, reader, writer, options, lines, advice)
+        }
         Form::Threads => run_threads(rt, alloc, reader, writer, options, advice),
     }
 }
@@ -67,10 +70,10 @@ fn explore_file<R: Input + Files, W: Write>(
 ) -> io::Result<Outcome> {
     if path == STANDARD_INPUT {
         let mut reader = rt.reader();
-        return Ok(run_exploring(alloc, &mut reader, writer, options.seed, most, advice));
+        return Ok(run_exploring(alloc, &mut reader, writer, options, most, advice));
     }
     let mut reader = fs::open(rt, path)?;
-    Ok(run_exploring(alloc, &mut reader, writer, options.seed, most, advice))
+    Ok(run_exploring(alloc, &mut reader, writer, options, most, advice))
 }
 
 /// Runs one script, and returns the exit status. Writes nothing after a failed write.

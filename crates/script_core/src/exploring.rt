@@ -1,16 +1,18 @@
 //! The exploration of a script with blocks.
-ghost use Rattle.std.specs.Prelude.{◌≡◌, IfErr, List, Option, ℕ};
-ghost use Rattle.script_core.specs.Explored.{Explores, outcome_for};
+ghost use Rattle.std.specs.Prelude.{◌≡◌, IfErr, IfOk, List, Option, ℕ};
+ghost use Rattle.script_core.specs.Explored.{Explores, IsInForm, outcome_for};
+ghost use Rattle.script_core.specs.declared.options.Form.{Form as TheForm};
 
+use crate::options::{Form, Options};
 use crate::script::{Outcome, write_whole};
-use script_explorer::{Halt, Plan, Unread, explore};
+use script_explorer::{Explored, Halt, Plan, Unread, draw, explore};
 use script_lines::Reason;
 use std::alloc::{AllocError, Global};
 use std::io::{ErrorKind, Read, Write};
 
 // Returns all bytes of a reader.
 fn read_all<R: Read>(alloc: Global, reader: &mut R) -> Result<Vec<u8>, Outcome>
-    ensures { IfErr result (λ outcome. (old : Option (List ℕ)) (seed : ℕ) → Explores seed old old outcome) }
+    ensures { IfErr result (λ outcome. (form : TheForm) (seed : ℕ) (old : Option (List ℕ)) → Explores form seed old old outcome) }
 {
     let mut bytes = Vec::new(alloc);
     match reader.read_to_end(&mut bytes) {
@@ -22,7 +24,7 @@ fn read_all<R: Read>(alloc: Global, reader: &mut R) -> Result<Vec<u8>, Outcome>
 
 // Returns the outcome of an exploration that was halted.
 fn halted(halt: Halt) -> Outcome
-    ensures { (old : Option (List ℕ)) (seed : ℕ) → Explores seed old old result }
+    ensures { (form : TheForm) (seed : ℕ) (old : Option (List ℕ)) → Explores form seed old old result }
 {
     match halt {
         Halt::Bad(number, reason) => Outcome::BadLine(number, reason),
@@ -41,18 +43,34 @@ fn outcome_for(unmet: Option<u64>) -> Outcome
     }
 }
 
+// Returns the outcomes of a plan, as a drawing or as a text.
+fn explored(
+    alloc: Global,
+    plan: &Plan<'_>,
+    options: &Options,
+    most: u64,
+    advice: &mut String,
+) -> Result<Explored, Halt>
+    ensures { IfOk result (λ explored. IsInForm options.now.form options.now.seed explored) }
+{
+    match options.form {
+        Form::Picture(lines) => draw(alloc, plan, options.seed, most, lines, advice),
+        _ => explore(alloc, plan, options.seed, most, advice),
+    }
+}
+
 // Explores a plan, and writes its outcomes.
 fn explore_plan<W: Write>(
     alloc: Global,
     plan: &Plan<'_>,
     writer: &mut W,
-    seed: u32,
+    options: &Options,
     most: u64,
     advice: &mut String,
 ) -> Outcome
-    ensures { Explores seed (W.contents writer.old) (W.contents writer.new) result }
+    ensures { Explores options.now.form options.now.seed (W.contents writer.old) (W.contents writer.new) result }
 {
-    let explored = match explore(alloc, plan, seed, most, advice) {
+    let explored = match explored(alloc, plan, options, most, advice) {
         Ok(explored) => explored,
         Err(halt) => return halted(halt),
     };
@@ -64,7 +82,8 @@ fn explore_plan<W: Write>(
 
 /// Takes the blocks of the script that the reader gives, and all that is in flight, in every order, up to `most`
 /// steps behind its beginning, and writes each outcome with its shortest script. The replies of an outcome are those
-/// that its script prints, run by [`run_script`](crate::run_script). `seed` is the first challenge of the handshakes.
+/// that its script prints, run by [`run_script`](crate::run_script). If a picture is asked for, the scripts are drawn
+/// in one document, side by side.
 ///
 /// Nothing is written if a line is a bad one, or if reading or memory fails. The fault of a bad line is put behind
 /// the advice, as far as there is memory for it.
@@ -72,18 +91,18 @@ pub fn run_exploring<R: Read, W: Write>(
     alloc: Global,
     reader: &mut R,
     writer: &mut W,
-    seed: u32,
+    options: &Options,
     most: u64,
     advice: &mut String,
 ) -> Outcome
-    ensures { Explores seed (W.contents writer.old) (W.contents writer.new) result }
+    ensures { Explores options.now.form options.now.seed (W.contents writer.old) (W.contents writer.new) result }
 {
     let input = match read_all(alloc, reader) {
         Ok(input) => input,
         Err(outcome) => return outcome,
     };
     match Plan::read(alloc, &input) {
-        Ok(plan) => explore_plan(alloc, &plan, writer, seed, most, advice),
+        Ok(plan) => explore_plan(alloc, &plan, writer, options, most, advice),
         Err(Unread::OutOfMemory) => Outcome::OutOfMemory,
         Err(Unread::Bad(number, fault)) => {
             let _: Result<(), AllocError> = write!(advice, "{fault}");

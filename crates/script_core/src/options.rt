@@ -14,8 +14,9 @@ pub enum Form {
     Text,
     /// A line of JSON for each event.
     Events,
-    /// A drawing in SVG of the events of these lines.
-    Picture(LineRange),
+    /// A drawing in SVG of the events of these lines. [`None`] stands for all lines, or with `--explore` for those
+    /// from the first on in which the scripts of the outcomes differ.
+    Picture(Option<LineRange>),
     /// The text that its commands print, at nodes that have a thread each.
     Threads,
 }
@@ -106,14 +107,17 @@ Commands of a script, one a line:
   route NODE PEER    the connection of NODE to PEER that is up
   travels NODE PEER  the items in flight to NODE from PEER, the next to come first
   why NODE PEER      the fault by which the last connection of NODE to PEER broke
-  lose NODE PEER     NODE notices that its connection to PEER is lost
+  lose NODE PEER [CONNECTION]
+                     NODE notices that its connection to PEER is lost
   cut NODE PEER      both do
   stop NODE          the node stops
   start NODE         it starts again, in its next incarnation
-  deliver NODE PEER  the next item from PEER comes to NODE
+  deliver NODE PEER [CONNECTION]
+                     the next item from PEER comes to NODE
   local NODE         the next item from NODE to itself comes
   sweep NODE         one record of a lost connection is swept
   settle             all of this happens, until nothing more may
+  challenge NUMBER   the next challenge of a handshake
   show [all]         the nodes, their processes and the messages that wait; with all their links, monitors
                      and connections, and the items in flight too
   expect WORDS       ends the script with status 7 unless the last line that was printed is WORDS; in them
@@ -122,8 +126,8 @@ With --explore there are three lines more:
   par                begins the blocks, behind the beginning of the script
   and                parts two blocks; the steps of blocks, and all in flight, come in every order
   end                ends the last block; the questions follow, whose replies are the outcome
-With --threads there is no pair, deliver, local, sweep, travels or why: nodes in threads take what comes
-by themselves.
+With --threads there is no pair, deliver, local, sweep, travels, why or challenge: nodes in threads take what
+comes by themselves.
 
 Exit status: 0 the script ran; 2 wrong command line; 3 bad line; 4 no memory, or no threads; 5 the
 histories of nodes in threads don't merge; 6 reading or writing failed, or the script has more than
@@ -178,14 +182,13 @@ fn with_explore<'a>(alloc: Global, command: Command<'a>) -> Result<Command<'a>, 
         .long("explore")
         .value_name("MOST")
         .help(
-            "Take the blocks of the script, and all that is in flight, in every order, up to MOST steps, by default 100; print each outcome and its shortest script",
+            "Take the blocks of the script, and all that is in flight, in every order, up to MOST steps, by default 100; print each outcome and its shortest script, or with --picture draw these scripts side by side",
         )
         .num_args(0..=1)
         .require_equals(true)
         .default_missing_value("100")
         .value_parser(clap::value_parser!(u64))
         .conflicts_with("trace")?
-        .conflicts_with("picture")?
         .conflicts_with("threads")?
         .conflicts_with("check")?;
     Ok(command.arg(explore)?)
@@ -230,11 +233,9 @@ fn files_of<'a>(alloc: Global, matches: &ArgMatches<'a>) -> Result<Vec<&'a str>,
     Ok(files)
 }
 
-// Returns true if a word has the number of steps behind `--explore`.
-fn has_most(words: &[String]) -> bool {
-    words
-        .iter()
-        .any(|word| word.as_str().starts_with("--explore="))
+// Returns true if a word begins with these characters.
+fn has_word(words: &[String], front: &str) -> bool {
+    words.iter().any(|word| word.as_str().starts_with(front))
 }
 
 // Returns the most steps of a schedule, if the script is explored, or the reason why the files don't fit. Takes
@@ -248,7 +249,7 @@ fn most_of(
         return Ok(None);
     };
     let number = match files.first() {
-        Some(first) if !has_most(words) => first.parse::<u64>().ok(),
+        Some(first) if !has_word(words, "--explore=") => first.parse::<u64>().ok(),
         _ => None,
     };
     match (number, files.len()) {
@@ -271,22 +272,23 @@ fn trace_of(matches: &ArgMatches<'_>) -> Trace {
     }
 }
 
-// Returns the lines that are drawn, if a picture is asked for, or the reason why they are none.
-fn lines_of(matches: &ArgMatches<'_>) -> Result<Option<LineRange>, &'static str> {
-    match matches.get_str("picture") {
-        Some(text) => Ok(Some(range_of(text)?)),
-        None => Ok(None),
+// Returns the form of a picture, or the reason why its lines are none.
+fn picture_of(words: &[String], lines: &str) -> Result<Form, &'static str> {
+    if has_word(words, "--picture=") {
+        Ok(Form::Picture(Some(range_of(lines)?)))
+    } else {
+        Ok(Form::Picture(None))
     }
 }
 
 // Returns the form of a script's output, or the reason why the options exclude each other.
-fn form_of(matches: &ArgMatches<'_>) -> Result<Form, &'static str> {
+fn form_of(matches: &ArgMatches<'_>, words: &[String]) -> Result<Form, &'static str> {
     let trace = matches.get_str("trace");
-    match (matches.get_flag("threads"), lines_of(matches)?) {
+    match (matches.get_flag("threads"), matches.get_str("picture")) {
         (true, _) if trace == Some("json") => Err(THREADS_AND_EVENTS),
         (true, _) if trace == Some("text") => Err(THREADS_AND_WORDS),
         (true, _) => Ok(Form::Threads),
-        (false, Some(lines)) => Ok(Form::Picture(lines)),
+        (false, Some(lines)) => picture_of(words, lines),
         (false, None) if trace == Some("json") => Ok(Form::Events),
         (false, None) => Ok(Form::Text),
     }
@@ -302,7 +304,7 @@ pub fn read_options<'a>(alloc: Global, words: &'a [String]) -> Result<CommandLin
         return Err(command.error(ErrorKind::UnknownArgument, remedy)?);
     }
     let matches = command.try_get_matches_from_mut(words)?;
-    let form = match form_of(&matches) {
+    let form = match form_of(&matches, words) {
         Ok(form) => form,
         Err(why) => return Err(command.error(ErrorKind::ArgumentConflict, why)?),
     };
