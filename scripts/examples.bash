@@ -51,10 +51,12 @@ wrong_in_example() {
     differs "$base.stderr" "$room/stderr"
 }
 
-# Prints the difference between the kept drawing of an example and the one that the program draws.
+# Prints the difference between the kept drawing of an example and the one that the program draws: of a script
+# with blocks, that of its outcomes.
 wrong_in_drawing() {
-    local base=$1
-    timeout 60 "$program" --picture < "$base.script" > "$room/drawing" 2> /dev/null
+    local base=$1 words=(--picture)
+    ! is_explored "$base" || words=(--explore --picture)
+    timeout 60 "$program" "${words[@]}" < "$base.script" > "$room/drawing" 2> /dev/null
     cmp "$base.svg" "$room/drawing" 2>&1
 }
 
@@ -88,7 +90,7 @@ judge() {
     [ -z "$wrong" ] || echo "$wrong"
 }
 
-# Tells if an example runs with --explore: then its script has blocks, which nothing else runs.
+# Tells if an example runs with --explore: then its script has blocks, which nothing runs without it.
 is_explored() {
     [ -f "$1.args" ] && grep -q -e --explore "$1.args"
 }
@@ -99,7 +101,7 @@ try_scripts() {
     for example in examples/*.script examples/*.bash; do
         base=${example%.*}
         judge "$base" "$(wrong_in_example "$base")"
-        [ -f "$base.script" ] && ! is_explored "$base" || continue
+        [ -f "$base.script" ] || continue
         [ ! -f "$base.threads" ] || judge "$base --threads" "$(wrong_in_threads "$base")"
         judge "$base.svg" "$(wrong_in_drawing "$base")"
     done
