@@ -1,5 +1,5 @@
 //! The acts of callers.
-ghost use Rattle.std.specs.Prelude.{◌≡◌, ◌↔◌, IfErr, IfOk, IsTrue, max};
+ghost use Rattle.std.specs.Prelude.{◌≡◌, ◌↔◌, IfErr, IfOk, IsTrue};
 ghost use Rattle.node_lock.specs.Calling.{Calls, IsAtHome, IsUncalled, stamp_at};
 
 use crate::act::Act;
@@ -26,14 +26,6 @@ fn is_at_home(book: &Book, seat: &Seat) -> bool
     seat.node == book.place() && last_stands(seat.receipts.as_slice(), book.entries())
 }
 
-// Returns the stamp behind which the entry of the seat's next act comes.
-fn stamp_before(book: &Book, seat: &Seat) -> u64
-    ensures { result ≡ max book.now.history.last seat.now.above }
-{
-    let last = book.last();
-    if last < seat.above { seat.above } else { last }
-}
-
 /// Runs `act` at the node of `book`, records it there, and appends the act with its receipt to
 /// `seat`. Returns the index of the receipt in the seat. The receipt has the place, the stamp and
 /// the answer of the entry.
@@ -50,7 +42,7 @@ pub fn call(alloc: Global, book: &mut Book, seat: &mut Seat, act: Act) -> Result
         return Err(Refusal::StrangeSeat);
     }
     book.replays();
-    if stamp_before(book, seat) == u64::MAX {
+    if book.last_or(seat.above) == u64::MAX {
         drop(act);
         return Err(Refusal::IdsUsedUp);
     }

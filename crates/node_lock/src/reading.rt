@@ -1,5 +1,5 @@
 //! Readers of a book, for its comparison with others.
-ghost use Rattle.std.specs.Prelude.{◌≡◌};
+ghost use Rattle.std.specs.Prelude.{◌≡◌, max};
 ghost use Rattle.node_lock.specs.Standing.{IsBook};
 
 use crate::book::Book;
@@ -36,6 +36,13 @@ impl Book {
         ensures { result ≡ self.now.history.last }
     {
         self.history.last()
+    }
+
+    /// Returns the greater of two stamps: that of the last entry, or 0, and `above`.
+    pub(crate) fn last_or(&self, above: u64) -> u64
+        ensures { result ≡ max self.now.history.last above }
+    {
+        self.history.last_or(above)
     }
 
     /// Has no effect. Its contract is the invariant of the type: a log replays the book.

@@ -10,12 +10,12 @@ returns-then-not-is_at_home-clause-err c =
 pub returns-then-is_err-clause-err : goal.returns-then-is_err-clause-err
 returns-then-is_err-clause-err c =
     no_room c.args.act c.args.book.now c.args.seat.now (record (c.args.seat.now) { receipts = c.reserve.new.self })
-    (at_home c.is_at_home.result c.is_at_home.ensures c.if-not-is_at_home.false) (omega (arith, c.stamp_before.ensures, c.if-stamp_before.false, c.stamp_before.type_inv)) refl c.reserve.ensures.items refl
+    (at_home c.is_at_home.result c.is_at_home.ensures c.if-not-is_at_home.false) (omega (arith, c.last_or.ensures, c.if-last_or.false, c.last_or.type_inv)) refl c.reserve.ensures.items refl
 
 pub returns-in-Err-clause-err : goal.returns-in-Err-clause-err
 returns-in-Err-clause-err c =
     no_room c.args.act c.args.book.now c.args.seat.now (record (c.args.seat.now) { receipts = c.reserve.new.self })
-    (at_home c.is_at_home.result c.is_at_home.ensures c.if-not-is_at_home.false) (omega (arith, c.stamp_before.ensures, c.if-stamp_before.false, c.stamp_before.type_inv)) refl c.reserve.ensures.items refl
+    (at_home c.is_at_home.result c.is_at_home.ensures c.if-not-is_at_home.false) (omega (arith, c.last_or.ensures, c.if-last_or.false, c.last_or.type_inv)) refl c.reserve.ensures.items refl
 
 pub returns-in-Err-act-clause-err : goal.returns-in-Err-act-clause-err
 returns-in-Err-act-clause-err c =
