@@ -29,8 +29,9 @@ pub(crate) fn takes(side: Option<&Side>) -> bool
     }
 }
 
-// The node at the other end of a connection.
-fn peer_on<'a>(trunk: &'a TrunkId, side: Option<&'a Side>) -> &'a Atom
+/// Returns the node at the other end of a connection of which a node has this side. The dialer's node is at the other
+/// end of a connection of which the node has none. (ERTS User's Guide, Distribution Protocol.)
+pub fn peer_on<'a>(trunk: &'a TrunkId, side: Option<&'a Side>) -> &'a Atom
     ensures { result.now ≡ peer_on trunk.now (option_map side_of (option_copied side.entry)) }
 {
     match side {

@@ -24,6 +24,7 @@ mod running;
 mod sending;
 mod world;
 
+pub use arriving::peer_on;
 pub use event::Event;
 pub use happening::happen;
 pub use laws::nodes_take_by_their_own_sides;
