@@ -1,4 +1,4 @@
--- The numbers of ways: a way is what travels on a connection to one of its two nodes.
+-- The numbers of ways. A way is the direction of a connection to one of its two nodes.
 use Rattle.std.specs.Prelude.{◌≡◌, ℕ, List, Some}
 use Rattle.std.specs.List.{slice_get}
 use Rattle.dist_model.specs.Names.{Name}

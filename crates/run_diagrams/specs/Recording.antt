@@ -1,4 +1,4 @@
--- What of an event stands in the row that is made of it: each item that it sent, on the queue of its way, and whether the row takes one.
+-- The part of an event that its row has: each item that it sent, on the queue of its way, and the item that it took.
 use Rattle.std.specs.Prelude.{◌≡◌, ℕ, Bool, true, false, ◌==◌, ◌&&◌, ◌||◌, nat_lt, if◌then◌else◌, List}
 use Rattle.std.specs.Prelude.{[], ◌∷◌, ◌++◌, length, Option, None, Some, is_none, Result, Ok, Err}
 use Rattle.std.specs.List.{flat_map}
@@ -20,7 +20,7 @@ use Rattle.run_diagrams.specs.declared.scope.Scope.{Scope}
 use Rattle.run_diagrams.specs.declared.queues.Way.{Way}
 use Rattle.run_diagrams.specs.declared.recorder.Recorder.{Recorder}
 
--- ---- what an event sends on connections, and what it takes
+-- ---- the items that an event sends on connections, and the one that it takes
 
 abbrev pub way_in : Effect Framed → List Way
 way_in (Effect.Sent (Some trunk) peer frame) = way_of trunk peer ∷ []
@@ -29,7 +29,7 @@ way_in _ = []
 abbrev pub ways_of : List (Effect Framed) → List Way
 ways_of effects = flat_map way_in effects
 
--- what came on a connection is taken, also where it breaks the side there
+-- the item that came on a connection is taken, also if it breaks the side there
 abbrev pub took_on : Name → Option TrunkId → Answer → Option Way
 took_on node (Some trunk) (answer.Took kind) = Some (way_of trunk node)
 took_on node (Some trunk) (answer.Broken fault) = Some (way_of trunk node)

@@ -1,4 +1,4 @@
-//! What happens at nodes is recorded.
+//! The events of nodes are recorded.
 ghost use Rattle.std.specs.Prelude.{◌≡◌, ◌∷◌, [], IfOk, OnOk, None};
 ghost use Rattle.std.specs.Option.{option_copied};
 ghost use Rattle.run_diagrams.specs.Numbers.{AreApart, way_of};
@@ -117,7 +117,7 @@ fn put_sent(
     }
 }
 
-// What an effect puts on the lane of the node, and what it sends.
+// Puts the words of an effect on the lane of the node, and the item that it sends on its queue.
 fn put_effect(
     alloc: Global,
     ways: &mut Ways,
@@ -133,7 +133,7 @@ fn put_effect(
     put_sent(alloc, ways, row, spot, effect)
 }
 
-// What an event brought about.
+// Puts the words and the items of all effects of an event.
 fn put_effects(
     alloc: Global,
     ways: &mut Ways,
@@ -151,7 +151,7 @@ fn put_effects(
     Ok(())
 }
 
-// What came on a connection is taken; where it broke the connection, or this was lost, nothing more is.
+// Takes the item that came on a connection. A connection that broke or was lost takes no more.
 fn put_taken(
     alloc: Global,
     row: &mut Row,
@@ -235,7 +235,7 @@ fn answered(
     of_answer(alloc, peer, answer)
 }
 
-// What a report says of the node.
+// Puts the words of a report on the lane of the node.
 fn put_report(
     alloc: Global,
     ways: &mut Ways,

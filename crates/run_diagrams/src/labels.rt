@@ -1,4 +1,4 @@
-//! What an item is called that travels, in the standard's words. (ERTS User's Guide, Distribution Protocol.)
+//! The names of items in flight, in the standard's words. (ERTS User's Guide, Distribution Protocol.)
 
 use crate::names::{ScriptNames, put_named};
 use erl_control::{ItemRef, SignalRef, frame_at};
@@ -67,11 +67,11 @@ fn put_message(
     }
 }
 
-/// Appends what an item is called, from its bytes and the role of the node that it is sent to. Names stand in
-/// place of processes and references.
+/// Appends the name of an item, from its bytes and the role of the node that it is sent to. Names of the script stand
+/// in place of processes and references.
 ///
 /// # Errors
-/// Where memory is wanting.
+/// [`AllocError`] if out of memory.
 pub(crate) fn put_label(
     alloc: Global,
     out: &mut String,

@@ -1,4 +1,4 @@
-//! What a message in a mailbox is called.
+//! The names of messages in a mailbox.
 
 use crate::names::{ScriptNames, put_named};
 use erl_term::{Pid, Term};
@@ -81,10 +81,10 @@ fn put_object(out: &mut String, names: &ScriptNames, object: Object) -> Result<(
     }
 }
 
-/// Appends what a process gets: of EXIT and DOWN whose they are and the reason, and else the message.
+/// Appends the message that a process gets. Of EXIT and DOWN these are the other process and the reason.
 ///
 /// # Errors
-/// Where memory is wanting.
+/// [`AllocError`] if out of memory.
 pub(crate) fn put_message(
     out: &mut String,
     names: &ScriptNames,

@@ -1,4 +1,4 @@
-//! The numbers of queues: what travels on a connection to one of its two nodes.
+//! The numbers of queues. A queue has the items in flight on a connection to one of its two nodes.
 ghost use Rattle.std.specs.Prelude.{◌≡◌, ◌↔◌, ◌++◌, ◌∷◌, [], ℕ, IfNone, IfOk, IfSome, IsTrue, OnErr, OnOk};
 ghost use Rattle.run_diagrams.specs.Numbers.{AreApart, IsNumber, way_of};
 ghost use Rattle.run_diagrams.specs.declared.queues.Way.{Way as TheWay};
@@ -6,7 +6,7 @@ ghost use Rattle.run_diagrams.specs.declared.queues.Way.{Way as TheWay};
 use erl_names::{NodeName, TrunkId};
 use std::alloc::{AllocError, Global};
 
-/// What travels on a connection to one of its two nodes.
+/// The direction of a connection to one of its two nodes.
 #[derive(Debug, Drop, PartialEq, Eq)]
 pub(crate) struct Way {
     pub(crate) trunk: TrunkId,
@@ -14,7 +14,7 @@ pub(crate) struct Way {
 }
 
 impl Way {
-    // Whether it is what travels on this connection to this node.
+    // Returns true if it is the direction of this connection to this node.
     fn is(&self, trunk: &TrunkId, to: &NodeName) -> bool
         ensures { IsTrue result ↔ (self.now ≡ way_of trunk.now to.now) }
     {

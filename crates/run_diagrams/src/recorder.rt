@@ -236,8 +236,8 @@ impl Recorder {
         Ok(())
     }
 
-    /// Returns the diagram of the recorded rows, and counts those that aren't drawn. Where rows had no room, or
-    /// are of lines behind, a last one says how many.
+    /// Returns the diagram of the recorded rows, and counts those that aren't drawn. If rows had no room, or are of
+    /// lines behind, a last row has their number.
     pub fn finish(self, alloc: Global) -> Result<Diagram, AllocError>
         ensures rows { IfOk result (λ diagram. IsPictureOf self diagram) }
         ensures hidden { IfOk result (λ diagram. diagram.hidden ≡ hidden_at self.scope (length self.diagram.rows.items)) }
@@ -260,7 +260,7 @@ impl Recorder {
         self.end(row)
     }
 
-    /// How two processes hold their links to one another, each on the lane of its node.
+    /// Records the ends of the link between two processes, each on the lane of its node.
     pub fn ends(
         &mut self,
         alloc: Global,

@@ -47,7 +47,7 @@ pub(crate) enum Part {
 /// The most rows of a diagram that are drawn. Those behind them are counted.
 const MOST_ROWS: usize = 10_000;
 
-/// The lines whose rows are drawn, and how far the script has come.
+/// The lines whose rows are drawn, and the part of the script that is being run.
 #[derive(Clone, Copy)]
 pub(crate) struct Scope {
     lines: LineRange,

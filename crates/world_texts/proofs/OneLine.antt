@@ -1,4 +1,4 @@
--- What goes to one node, of entries by connection and node: the values of its own entries, by connection alone.
+-- Of entries by connection and node, those of one node: their values, by connection alone.
 use Rattle.std.proofs.Common.{◌≡◌, ◌≢◌, ◌&&◌, Bool, true, false, cond, T, List, [], ◌∷◌, ◌++◌, map}
 use Rattle.std.proofs.Common.{Option, None, Some, unwrap_or, refl, sym, ap, subst, ◌∙◌}
 use Rattle.std.proofs.lemmas.Bool.{and_parts}
