@@ -1,23 +1,12 @@
--- One line more, behind lines that were run.
-use Rattle.std.proofs.Common.{◌≡◌, ℕ, ◌+◌, ◌<◌, List, [], ◌∷◌, ◌++◌, Err, Global, Ok, Some, Vec, ap, drop, get_or, length, map, refl, subst, sym, take, ◌∙◌}
+-- The lines of a script of which some were run.
+use Rattle.std.proofs.Common.{◌≡◌, ℕ, ◌+◌, ◌<◌, List, [], ◌∷◌, ◌++◌, Err, Global, Some, Vec, ap, drop, get_or, length, map, refl, sym, take, ◌∙◌}
 use Rattle.std.proofs.lemmas.List.{drop_more, map-append, take-append-drop, take_more}
-use Rattle.script_session.specs.Running.{LeadsTo}
 use Rattle.script_explorer.specs.Replays.{Ends}
-use Rattle.script_session.specs.Session.{State, Step, line_does}
+use Rattle.script_session.specs.Session.{State}
 use Rattle.script_session.specs.Stands.{Obeys}
 use Rattle.script_session.specs.declared.session.Session.{Session}
 use Rattle.script_session.specs.declared.session.Stop.{Stop}
 use Rattle.script_session.specs.declared.session.Stop.TheVariants as stop
-
-pub led_more : (from : State) (lines texts : List (List ℕ)) (mid : State) (line : List ℕ) (step : Step)
-    → LeadsTo from lines texts mid → line_does mid line ≡ Ok step
-    → LeadsTo from (lines ++ line ∷ []) (texts ++ step.text ∷ []) step.state
-led_more from [] texts mid line step led does =
-    (step, [], subst (λ (state : State). line_does state line ≡ Ok step) led.1 does, ap (λ (t : List (List ℕ)). t ++ step.text ∷ []) led.0, (refl, refl))
-led_more from (first ∷ lines) texts mid line step led does =
-    (led.0, led.1 ++ step.text ∷ [], led.2, ap (λ (t : List (List ℕ)). t ++ step.text ∷ []) led.3, led_more led.0.state lines led.1 mid line step led.4 does)
-
--- ---- the lines of a script, of which so many were run
 
 abbrev pub bytes_of : Vec ℕ Global → List ℕ
 bytes_of line = line.items

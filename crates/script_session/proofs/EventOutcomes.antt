@@ -2,7 +2,7 @@
 use Rattle.std.proofs.Common.{◌≡◌, ℕ, List, ◌++◌, Option, Ok, Err, sym, ap, subst, ◌∙◌, inl, inr}
 use Rattle.dist_model.specs.Names.{Name}
 use Rattle.dist_model.specs.Runs.{Goes}
-use Rattle.dist_model.specs.World.{Event, Refused, Report, Reported, World, node_name, step}
+use Rattle.dist_model.specs.World.{Event, Refused, Report, Reported, World, step}
 use Rattle.erl_term.specs.declared.refusal.Refusal.{Refusal}
 use Rattle.node_core.proofs.EventNamed.{event_named}
 use Rattle.node_core.specs.NodeEvents.{event_at}

@@ -1,5 +1,7 @@
 pub mod NodesFirst
 pub mod EventsLead
+mod LineEvents
+pub mod Led
 pub mod PairStages
 pub mod LineOutcomes
 pub mod EventOutcomes

@@ -5,5 +5,6 @@ pub mod Pairs
 pub mod Session
 pub mod Running
 pub mod Stands
+pub mod Events
 pub mod Touched
 pub mod Telling

@@ -170,9 +170,9 @@ impl Stage {
         same_name(self.world.peer_on(node.atom(), trunk), peer.atom())
     }
 
-    // Returns a connection of a node that leads to a peer, or the refusal. `otherwise` is the refusal of one that
-    // leads elsewhere.
-    fn leading(
+    /// Returns a connection of a node that leads to a peer, or the refusal. `otherwise` is the refusal of one that
+    /// leads elsewhere.
+    pub(crate) fn leading(
         &self,
         node: &NodeName,
         peer: &NodeName,

@@ -5,6 +5,7 @@
 #![tactic(auto)]
 
 mod connections;
+mod events;
 mod laws;
 mod made;
 mod pairs;

@@ -1,9 +1,11 @@
 //! The session of a script.
-ghost use Rattle.std.specs.Prelude.{◌≡◌, ◌+◌, ◌-◌, ◌<◌, ◌^◌, [], true, false, None, IfOk, OnOk, drop, string_bytes};
+ghost use Rattle.std.specs.Prelude.{◌≡◌, ◌+◌, ◌-◌, ◌<◌, ◌^◌, [], true, false, None, IfOk, IfSome, OnOk, drop, string_bytes};
+ghost use Rattle.node_core.specs.NodeEvents.{event_at};
 ghost use Rattle.run_traces.specs.Breaks.{broken_by};
 ghost use Rattle.script_lines.specs.Replies.{is_met, reply_after};
 ghost use Rattle.script_lines.specs.Lines.{ReadsSome, line_says};
 ghost use Rattle.script_lines.specs.Said.{said};
+ghost use Rattle.script_session.specs.Events.{IsEventOf};
 ghost use Rattle.script_session.specs.Session.{State, binds, fresh_state, is_taken, may_come, new_name, plays, starts};
 ghost use Rattle.script_session.specs.Stage.{Stage as TheStage};
 ghost use Rattle.script_session.specs.Stands.{Compares, IsOpening, IsStage, IsSession, Obeys, Plays};
@@ -14,16 +16,17 @@ ghost use Rattle.world_core.specs.Stands.{StandsFor};
 
 use crate::made::Made;
 use crate::pairs::{FIRST, SECOND, first_process};
-use crate::playing::{is_taken, new_name, starts};
+use crate::playing::{asked, is_taken, new_name, starts};
 use crate::stage::Stage;
 use crate::telling::Telling;
 use diagram::Diagram;
+use erl_term::Atom;
 use run_diagrams::LineRange;
 use run_traces::{Breaks, Trace};
 use script_lines::{Line, MayCome, Reason, Reply, expected, put_advice, read_line};
 use script_terms::{Named, Names};
 use std::alloc::{AllocError, Global};
-use world_core::World;
+use world_core::{NodeEvent, World};
 
 /// The most nodes of a script.
 pub const MOST_NODES: usize = 64;
@@ -200,6 +203,29 @@ impl Session {
         ensures { (state : State) → IsSession self.now state → ReadsSome (line_says (may_come state) state.names line.now) result }
     {
         read_line(self.may_come(), &self.names, line)
+    }
+
+    /// Returns the event of a line that brings about exactly one, and the name of its node. The arrival of an item
+    /// on a connection that the node knows has challenge 0. Returns [`None`] for any other line, and for one of a
+    /// connection that doesn't lead to the line's peer.
+    ///
+    /// # Errors
+    /// [`AllocError`] if out of memory.
+    pub fn event_of(
+        &self,
+        alloc: Global,
+        line: Line,
+    ) -> Result<Option<(Atom, NodeEvent)>, AllocError>
+        ensures { (state : State) → IsSession self.now state →
+            IfOk result (λ own. IfSome own (λ found. IsEventOf state (said line.entry) (event_at found.0 found.1))) }
+    {
+        if expected(line).is_some() || !starts(line) {
+            return Ok(None);
+        }
+        match asked(alloc, &self.names, line)? {
+            Some((node, command)) => Ok(Some((node, NodeEvent::Call(command)))),
+            None => self.stage.event_of(alloc, line),
+        }
     }
 
     // Binds the name of a command that has run, and takes its output as the last reply.

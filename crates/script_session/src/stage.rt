@@ -74,8 +74,8 @@ impl Stage {
         })
     }
 
-    // Returns true if a connection is new to a node.
-    fn is_new(&self, node: &Atom, trunk: &TrunkId) -> bool
+    /// Returns true if a connection is new to a node.
+    pub(crate) fn is_new(&self, node: &Atom, trunk: &TrunkId) -> bool
         ensures { (it : TheStage) → IsStage self.now it → (word : ℕ) → result ≡ takes_word it.world (Arrive trunk.now node.now word) }
     {
         match self.world.node(node) {

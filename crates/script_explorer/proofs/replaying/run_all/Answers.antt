@@ -1,7 +1,8 @@
 use Rattle.std.proofs.Common.{◌≡◌, ℕ, ◌+◌, [], ◌∷◌, List, ◌++◌, Global, Vec, Ok, Some, ap, arith, append-nil, drop, map, refl, rules, string_bytes, is_some, subst, sym, take, take_all, true≢false, ◌∙◌}
 use Rattle.std.proofs.lemmas.List.{map-append}
-use Rattle.script_explorer.proofs.Led.{bytes_of, led_more, one_more, parted, stopped}
+use Rattle.script_explorer.proofs.Led.{bytes_of, one_more, parted, stopped}
 use Rattle.script_explorer.specs.Replays.{Ends}
+use Rattle.script_session.proofs.Led.{led_more}
 use Rattle.script_session.specs.Running.{LeadsTo}
 use Rattle.script_session.specs.Session.{line_does}
 use Rattle.script_explorer.proofs.replaying.run_all.Goals as goal
