@@ -1,0 +1,3 @@
+mod Brought
+mod Opening
+mod Alike
