@@ -25,7 +25,7 @@ pub on_err : {X E : Type 0} {P Q : E → Type 0} (r : Result X E) → ((e : E) �
 on_err (Ok x) f h = tt
 on_err (Err e) f h = f e h
 
-some_nodes : (count : ℕ) → 0 < count → (count == 0) ≡ false
+pub some_nodes : (count : ℕ) → 0 < count → (count == 0) ≡ false
 some_nodes count h = grind (arith, nat_tests)
 
 -- the threads may have been started for the end
@@ -76,6 +76,7 @@ module _ (named : Cast) (some : 0 < length (nodes_of named)) (books : List BookS
   pub unfinished_so : (f : FinishError) (e : Unfinished) → e ≡ unfinished_by f
       → (f ≢ faults.OutOfMemory → length books ≡ length (nodes_of named)) → IsFault (nodes_of named) books seats f → IsUnfinished named e
   unfinished_so f unfinished.OutOfMemory e whole is = tt
+  unfinished_so f unfinished.Unrepeated e whole is = tt
   unfinished_so f unfinished.Unmerged e whole is =
       unmerged f (whole (λ none. let no : unfinished.Unmerged ≡ unfinished.OutOfMemory = e ∙ ap unfinished_by none in cc)) is (sym e)
 
@@ -83,6 +84,7 @@ module _ (named : Cast) (some : 0 < length (nodes_of named)) (books : List BookS
 pub unfinished_first : (named now : Cast) (e : Unfinished) → nodes_of now ≡ nodes_of named → (is_idle named ≡ false → now ≡ named)
     → IsUnfinished now e → IsUnfinished named e
 unfinished_first named now unfinished.OutOfMemory same stays u = tt
+unfinished_first named now unfinished.Unrepeated same stays u = tt
 unfinished_first (cast.Named nodes) now unfinished.Unmerged same stays u = record {
   some = subst (λ (n : Nodes). 0 < length n) same u.some;
   books = u.books;

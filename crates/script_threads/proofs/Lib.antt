@@ -1,5 +1,6 @@
 pub mod Lines
 pub mod Named
 pub mod EndTold
+mod ScriptGiven
 pub mod Asked
 pub mod Commands

@@ -86,7 +86,8 @@ pub record AreUnmerged (named : Cast) : Type 0 where
   pub is : IsFault (nodes_of named) books seats fault
   pub unmerged : unfinished_by fault ≡ unfinished.Unmerged
 
--- memory may be wanting at any place
+-- memory may be wanting at any place, and a script at the end
 abbrev pub IsUnfinished : Cast → Unfinished → Type 0
 IsUnfinished named unfinished.OutOfMemory = Unit {0}
+IsUnfinished named unfinished.Unrepeated = Unit {0}
 IsUnfinished named unfinished.Unmerged = AreUnmerged named

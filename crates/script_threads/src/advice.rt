@@ -4,7 +4,7 @@ use script_lines::{Reason, Verb, verb_in};
 use script_terms::Names;
 use std::alloc::{AllocError, Global};
 
-// Of a command that isn't there for nodes in threads, why, and what does instead.
+// Returns the remedy for a command that isn't there for nodes in threads.
 fn of_missing(verb: Verb) -> Option<&'static str> {
     match verb {
         Verb::Pair => Some(
@@ -30,11 +30,10 @@ fn of_missing(verb: Verb) -> Option<&'static str> {
     }
 }
 
-/// Puts what is wrong with a bad line behind what is printed, and the remedy where there is an obvious
-/// one.
+/// Appends the fault of a bad line, and its remedy if there is an obvious one.
 ///
 /// # Errors
-/// Where memory is wanting.
+/// [`AllocError`] if out of memory.
 pub(crate) fn put_advice(
     alloc: Global,
     out: &mut String,

@@ -4,6 +4,7 @@ ghost use Rattle.std.specs.List.{flat_map};
 ghost use Rattle.std.specs.Option.{option_copied};
 ghost use Rattle.script_texts.specs.Texts.{merged_text};
 ghost use Rattle.script_threads.specs.Merged.{AreMerged, Ends, IsUnfinished, sents_at, sents_with, trace_text, unfinished_by};
+ghost use Rattle.script_threads.specs.Scripts.{AreRepeated, EndsAsScript, unrepeated_by};
 ghost use Rattle.script_threads.specs.Standing.{has_started, is_idle, nodes_of};
 ghost use Rattle.script_threads.specs.declared.finishing.Unfinished.TheVariants as unfinished;
 ghost use Rattle.script_threads.specs.declared.threads.Cast.TheVariants as cast;
@@ -18,16 +19,19 @@ use joined_books::{FinishError, Placed};
 use node_history::Entry;
 use node_lock::Book;
 use run_traces::put_sents;
+use script_repeats::{OwnLines, Unrepeated, repeat};
 use script_texts::put_merged;
 use std::alloc::{AllocError, Global};
 
-/// Why the nodes of a script weren't merged.
+/// The reason why the nodes of a script weren't merged, or have no script.
 #[derive(Clone, Copy, Debug, PartialEq, Eq)]
 pub enum Unfinished {
-    /// Memory is wanting, or threads are.
+    /// Out of memory, or of threads.
     OutOfMemory,
-    /// The histories of the nodes don't fit together, or to what was answered.
+    /// The histories of the nodes don't fit together, or to the answers that were given.
     Unmerged,
+    /// No script repeats the merged run: it has more events than a script has lines, or the lines weren't kept.
+    Unrepeated,
 }
 
 impl From<AllocError> for Unfinished {
@@ -45,6 +49,17 @@ impl From<FinishError> for Unfinished {
         match e {
             FinishError::OutOfMemory => Unfinished::OutOfMemory,
             _ => Unfinished::Unmerged,
+        }
+    }
+}
+
+impl From<Unrepeated> for Unfinished {
+    ghost from_gives = { λ why e. e ≡ unrepeated_by why };
+
+    fn from(e: Unrepeated) -> Unfinished {
+        match e {
+            Unrepeated::OutOfMemory => Unfinished::OutOfMemory,
+            Unrepeated::Unlike => Unfinished::Unrepeated,
         }
     }
 }
@@ -69,7 +84,7 @@ fn put_entry(
     }
 }
 
-// The same, of the entry at a place.
+// Prints the items that were sent with the entry at a place.
 fn put_placed(
     alloc: Global,
     out: &mut String,
@@ -103,7 +118,7 @@ fn put_trace(
     Ok(())
 }
 
-// That the nodes have merged, behind what was sent with all entries, if that is asked for.
+// Prints that the nodes have merged, behind the items that were sent with all entries, if these are asked for.
 fn put_end(
     alloc: Global,
     out: &mut String,
@@ -120,7 +135,7 @@ fn put_end(
     put_merged(out)
 }
 
-// Ends the threads, and tells that the nodes have merged.
+// Ends the threads, and prints that the nodes have merged.
 fn finish_running<R: Machine>(
     rt: &R,
     alloc: Global,
@@ -144,7 +159,38 @@ fn finish_running<R: Machine>(
     }
 }
 
-// The nodes, with their threads, which are started where that isn't done.
+// Ends the threads, and returns a plain script that repeats their merged run.
+fn repeat_running<R: Machine>(
+    rt: &R,
+    alloc: Global,
+    seed: u32,
+    running: Running,
+    own: &OwnLines,
+) -> Result<Vec<u8>, Unfinished>
+    ensures repeated { IfOk result (λ script. AreRepeated seed (cast.Running running) script.items) }
+    ensures some { 0 < length running.nodes.items }
+    ensures err { IfErr result (IsUnfinished (cast.Running running)) }
+{
+    let Running {
+        nodes,
+        cluster,
+        seats,
+        ..
+    } = running;
+    match cluster.finish(rt, seats) {
+        Ok(finished) => Ok(repeat(
+            alloc,
+            seed,
+            own,
+            &nodes,
+            &finished.books,
+            &finished.trace.entries,
+        )?),
+        Err(unmerged) => Err(Unfinished::from(unmerged.fault)),
+    }
+}
+
+// Returns the nodes with their threads, which it starts unless they are.
 fn started<R: Machine>(
     rt: &R,
     alloc: Global,
@@ -159,13 +205,13 @@ fn started<R: Machine>(
 }
 
 impl ThreadedSession {
-    /// Ends the threads, of a script that has run through, and merges the histories of its nodes. Where
-    /// it has named nodes these are one safe run, and that is told by a line, behind the frames that were
-    /// sent in the order of the run, if these are asked for. Else nothing is printed.
+    /// Ends the threads of a script that has run through, and merges the histories of its nodes. If it has named
+    /// nodes, these are one safe run, and a line says so. The frames that were sent stand before it in the order of
+    /// the run, if they are asked for. Prints nothing if it has named no node.
     ///
     /// # Errors
-    /// [`Unfinished`] tells. [`Unfinished::Unmerged`] only where the script has named nodes, and books of
-    /// these don't fit together, or to what its seats have receipts for.
+    /// [`Unfinished::OutOfMemory`]; [`Unfinished::Unmerged`] only if the script has named nodes, and books of these
+    /// don't fit together, or to the receipts of its seats.
     pub fn finish<R: Machine>(
         self,
         rt: &R,
@@ -183,7 +229,30 @@ impl ThreadedSession {
         }
     }
 
-    /// Ends the threads, of a script that hasn't run through.
+    /// Ends the threads of a script that has run through, and merges the histories of its nodes. Returns a plain
+    /// script that repeats the merged run: from this seed on its lines bring about the events of all entries, in the
+    /// order of the run. It is empty if the script has named no node.
+    ///
+    /// # Errors
+    /// As [`ThreadedSession::finish`]; and [`Unfinished::Unrepeated`] if no script repeats the run.
+    pub fn finish_as_script<R: Machine>(
+        self,
+        rt: &R,
+        alloc: Global,
+        seed: u32,
+    ) -> Result<Vec<u8>, Unfinished>
+        ensures ok { IfOk result (λ script. EndsAsScript seed self.threads.cast script.items) }
+        ensures err { IfErr result (IsUnfinished self.threads.cast) }
+    {
+        let ThreadedSession { threads, own, .. } = self;
+        let NodeThreads { cast, .. } = started(rt, alloc, threads)?;
+        match cast {
+            Cast::Running(running) => repeat_running(rt, alloc, seed, running, &own),
+            Cast::Named(_) => Ok(Vec::new(alloc)),
+        }
+    }
+
+    /// Ends the threads of a script that hasn't run through.
     pub fn abandon<R: Machine>(self, rt: &R) {
         let ThreadedSession { threads, .. } = self;
         let NodeThreads { cast, .. } = threads;

@@ -7,7 +7,7 @@ ghost use Rattle.script_session.specs.Connections.{is_any, live_sides};
 ghost use Rattle.node_texts.specs.Monitors.{monitors_text};
 ghost use Rattle.node_texts.specs.Shown.{shown_node};
 ghost use Rattle.node_texts.specs.Trunks.{trunks_text};
-ghost use Rattle.script_threads.specs.Looking.{whole_with};
+ghost use Rattle.script_threads.specs.Looking.{leads_at, whole_with};
 
 use crate::nodes::place_of;
 use crate::running::Running;
@@ -16,12 +16,14 @@ use erl_names::{NodeName, TrunkId};
 use erl_term::{Atom, Pid, Refusal};
 use link_core::End;
 use node_core::Node;
+use node_frames::same_name;
 use node_texts::{put_monitors, put_shown, put_trunks, put_whole};
 use script_session::Live;
 use std::alloc::{AllocError, Global};
 use std::sync::Wait;
+use world_core::peer_on;
 
-// The connection of a node to a peer that is up.
+// Returns the connection of a node to a peer that is up.
 fn route_at(node: &Node, peer: &Atom) -> Result<Option<TrunkId>, Refusal>
     ensures { IfOk result (λ trunk. trunk ≡ route (model_of node.now) peer.now) }
 {
@@ -34,7 +36,7 @@ fn route_at(node: &Node, peer: &Atom) -> Result<Option<TrunkId>, Refusal>
     }
 }
 
-// The connection of a node to a peer, and its attempts at one.
+// Returns the connection of a node to a peer, and its attempts at one.
 fn live_at(node: &Node, peer: &Atom) -> Result<Live, Refusal>
     ensures live { IfOk result (λ live. live ≡ live_sides (model_of node.now) peer.now) }
     ensures any { IfOk result (λ live. is_any live ≡ true) }
@@ -52,14 +54,13 @@ fn live_at(node: &Node, peer: &Atom) -> Result<Live, Refusal>
 }
 
 // Returns true if a connection of a node leads to a peer.
-fn leads_at(node: &Node, peer: &Atom, trunk: &TrunkId) -> Result<bool, Refusal> {
+fn leads_at(node: &Node, peer: &Atom, trunk: &TrunkId) -> Result<bool, Refusal>
+    ensures { result ≡ leads_at (model_of node.now) peer.now trunk.now }
+{
     if !node.is_up() {
         return Err(Refusal::NodeDown);
     }
-    Ok(match node.side(trunk) {
-        Some(side) => side.peer.atom() == peer,
-        None => trunk.dialer.atom() == peer,
-    })
+    Ok(same_name(peer_on(trunk, node.side(trunk)), peer))
 }
 
 // Returns the lines that show a node.
@@ -113,10 +114,10 @@ fn monitors_at(alloc: Global, node: &Node, process: &Pid) -> Result<String, Refu
 }
 
 impl Running {
-    /// The connection of the node of a name to a peer that is up.
+    /// Returns the connection of the node of a name to a peer that is up.
     ///
     /// # Errors
-    /// [`Refusal::NothingThere`] where no node has the name, [`Refusal::NodeDown`],
+    /// [`Refusal::NothingThere`] if no node has the name, [`Refusal::NodeDown`],
     /// [`Refusal::OutOfMemory`].
     pub(crate) fn route<R: Wait>(
         &self,
@@ -130,7 +131,7 @@ impl Running {
         self.cluster.look(rt, place, |node| route_at(node, peer))?
     }
 
-    /// The connection of the node of a name to a peer, and its attempts at one. There is one of these.
+    /// Returns the connection of the node of a name to a peer, and its attempts at one. There is one of these.
     ///
     /// # Errors
     /// As those of [`Running::route`]; and [`Refusal::NotLive`].
@@ -159,7 +160,7 @@ impl Running {
             .look(rt, place, |node| leads_at(node, peer, trunk))?
     }
 
-    /// How a process holds its link to another.
+    /// Returns the end of a process's link to another.
     pub(crate) fn end<R: Wait>(&self, rt: &R, process: &Pid, partner: &Pid) -> End {
         let Some(place) = place_of(&self.nodes, process.node.text()) else {
             return End::None;

@@ -37,7 +37,7 @@ pub(crate) struct Running {
     ghost some: { 0 < length nodes.items },
 }
 
-// A seat at each of so many nodes.
+// Returns a seat at each of so many nodes.
 fn seats(alloc: Global, count: usize) -> Result<Vec<Seat>, AllocError> {
     let mut seats = Vec::new(alloc);
     for place in 0..count {
@@ -146,6 +146,15 @@ impl Running {
         }
     }
 
+    /// Returns the number of the receipts.
+    pub(crate) fn acts(&self) -> usize {
+        let mut acts = 0usize;
+        for seat in &self.seats {
+            acts = acts.saturating_add(seat.receipts().len());
+        }
+        acts
+    }
+
     /// Makes a call by the seat at the node of a name, and prints the answer.
     ///
     /// # Errors
@@ -172,7 +181,8 @@ impl Running {
         Ok(Made::Nothing)
     }
 
-    /// The same, and nothing is printed. A refusal is passed over, since it changes nothing.
+    /// Makes a call by the seat at the node of a name, and prints nothing. Passes over a refusal, since it changes
+    /// nothing.
     ///
     /// # Errors
     /// [`AllocError`] if out of memory.

@@ -13,19 +13,22 @@ use crate::reading::read;
 use crate::running::Machine;
 use crate::threads::NodeThreads;
 use script_lines::{Line, MayCome as Coming, Reason, Reply, expected};
+use script_repeats::OwnLines;
 use script_session::{MOST_NODES, Made, Stop, bind, compare, new_name, starts};
 use script_terms::Names;
 use std::alloc::{AllocError, Global};
 
-/// A script of which some lines have run: its nodes, which have a thread each from the first command on
-/// that no line for a node may follow, the meanings of its names, and the last reply. It is to be ended by
-/// [`ThreadedSession::finish`] or [`ThreadedSession::abandon`], since its threads go on until then.
+/// A script of which some lines have run: its nodes, the meanings of its names, the last reply, and the lines that it
+/// keeps. The nodes have a thread each from the first command on that no line for a node may follow. The threads go on
+/// until [`ThreadedSession::finish`], [`ThreadedSession::finish_as_script`] or [`ThreadedSession::abandon`].
 #[derive(Drop)]
 pub struct ThreadedSession {
     pub(crate) threads: NodeThreads,
     names: Names,
     reply: Reply,
     started: bool,
+    pub(crate) own: OwnLines,
+    keeps_lines: bool,
 }
 
 // Returns true if a line is for a node whose name another has.
@@ -62,9 +65,9 @@ fn carry_out<R: Machine>(
 }
 
 impl ThreadedSession {
-    /// Before the first line. The challenge of the first dial is the seed, and that of each next one
-    /// greater by 1; so are those that each node draws for the connections that are new to it. Takes no
-    /// memory, and starts no thread.
+    /// Creates a session before its first line. The challenge of the first dial is the seed, and that of each next one
+    /// is greater by 1. So are those that each node draws for the connections that are new to it. Never allocates, and
+    /// starts no thread.
     pub fn new(alloc: Global, seed: u32) -> ThreadedSession
         ensures { IsKnown result (record { nodes = []; look = λ name. None; reply = []; started = false }) }
     {
@@ -73,6 +76,18 @@ impl ThreadedSession {
             names: Names::new(alloc),
             reply: Reply::new(alloc),
             started: false,
+            own: OwnLines::new(alloc),
+            keeps_lines: false,
+        }
+    }
+
+    /// Returns the session, which keeps the lines that it runs for [`ThreadedSession::finish_as_script`].
+    pub fn keeping_lines(self) -> ThreadedSession
+        ensures { (known : Known) → IsKnown self known → IsKnown result known }
+    {
+        ThreadedSession {
+            keeps_lines: true,
+            ..self
         }
     }
 
@@ -87,13 +102,39 @@ impl ThreadedSession {
         }
     }
 
-    // Binds the name of a command that has run, and takes its output as the last reply.
+    // Keeps a line, if lines are kept, that has named a node or has asked for acts since there were so many.
+    fn keep_line(
+        &mut self,
+        alloc: Global,
+        line: &[u8],
+        is_node: bool,
+        acts: usize,
+    ) -> Result<(), AllocError>
+        ensures names { self.new.names ≡ self.old.names }
+        ensures reply { self.new.reply ≡ self.old.reply }
+        ensures started { self.new.started ≡ self.old.started }
+        ensures threads { self.new.threads ≡ self.old.threads }
+    {
+        if !self.keeps_lines {
+            return Ok(());
+        }
+        if is_node {
+            return self.own.add_node(alloc, line);
+        }
+        let acts = self.threads.acts().saturating_sub(acts);
+        self.own.add_acts(alloc, line, acts)
+    }
+
+    // Binds the name of a command that has run, and takes its output as the last reply. Keeps its line, if it has
+    // asked for acts since there were so many.
     fn keep(
         &mut self,
         alloc: Global,
         named: (String, Made),
         has_started: bool,
         printed: &str,
+        line: &[u8],
+        acts: usize,
     ) -> Result<(), AllocError>
         ensures names { (look : Look) → Knows self.old.names look → OnOk result (Knows self.new.names (binds (string_bytes named.0) named.1 look)) }
         ensures reply { OnOk result (self.new.reply.line.items ≡ reply_after printed.now self.old.reply.line.items) }
@@ -104,15 +145,14 @@ impl ThreadedSession {
         bind(alloc, &mut self.names, name, made)?;
         self.reply.follow(printed.as_bytes())?;
         self.started = has_started;
-        Ok(())
+        self.keep_line(alloc, line, !has_started, acts)
     }
 
     /// Runs a line, and appends its output. Bad lines are told by the same words as without threads.
     ///
     /// # Errors
-    /// [`Stop::Bad`] where the line is no command, may not come here, or expects another reply than the
-    /// last, before anything happens; [`Stop::OutOfMemory`] only where it is a command, for want of threads
-    /// too.
+    /// [`Stop::Bad`] if the line is no command, may not come here, or expects another reply than the last, before
+    /// anything happens; [`Stop::OutOfMemory`] only if it is a command, also if a thread can't be started.
     pub fn line<R: Machine>(
         &mut self,
         rt: &R,
@@ -123,7 +163,8 @@ impl ThreadedSession {
         ensures { (known : Known) → IsKnown self.old known →
             Obeys known line.now self.new (string_bytes out.old) (string_bytes out.new) result }
     {
-        let line = match read(self.may_come(), &self.names, line) {
+        let text = line;
+        let line = match read(self.may_come(), &self.names, text) {
             Ok(Some(line)) => line,
             Ok(None) => return Ok(()),
             Err(reason) => return Err(Stop::Bad(reason)),
@@ -135,12 +176,13 @@ impl ThreadedSession {
             return Err(Stop::Bad(Reason::NameTaken));
         }
         let has_started = starts(line);
+        let acts = self.threads.acts();
         let (threads, names) = (&mut self.threads, &self.names);
         let mut printed = String::new(alloc);
         let Ok(named) = carry_out(rt, alloc, threads, names, line, &mut printed) else {
             return Err(Stop::OutOfMemory);
         };
-        let Ok(()) = self.keep(alloc, named, has_started, printed.as_str()) else {
+        let Ok(()) = self.keep(alloc, named, has_started, printed.as_str(), text, acts) else {
             return Err(Stop::OutOfMemory);
         };
         let Ok(()) = out.push_str(printed.as_str()) else {
@@ -149,11 +191,10 @@ impl ThreadedSession {
         Ok(())
     }
 
-    /// Puts what is wrong with a bad line behind what is printed, and the remedy where there is an obvious
-    /// one.
+    /// Appends the fault of a bad line, and its remedy if there is an obvious one.
     ///
     /// # Errors
-    /// Where memory is wanting.
+    /// [`AllocError`] if out of memory.
     pub fn put_advice(
         &self,
         alloc: Global,

@@ -22,13 +22,13 @@ const MOST_LOOKS: u64 = 1_000_000;
 /// The nodes that a script has named.
 #[derive(Drop)]
 pub(crate) enum Cast {
-    /// They have no threads yet.
+    /// The nodes have no threads yet.
     Named(Vec<(NodeName, Setup)>),
-    /// They have.
+    /// The nodes have threads.
     Running(Running),
 }
 
-/// The nodes that a script has named, and what challenges they take.
+/// The nodes that a script has named, and the challenges of their dials.
 #[derive(Drop)]
 pub(crate) struct NodeThreads {
     pub(crate) cast: Cast,
@@ -39,7 +39,7 @@ pub(crate) struct NodeThreads {
 }
 
 impl NodeThreads {
-    /// Before any node has a name.
+    /// Creates the nodes of a script that has named none.
     pub(crate) fn new(alloc: Global, seed: u32) -> NodeThreads
         ensures none { nodes_of result.cast ≡ [] }
         ensures idle { is_idle result.cast ≡ true }
@@ -51,13 +51,21 @@ impl NodeThreads {
         }
     }
 
-    /// The names and the cookies of the nodes.
+    /// Returns the names and the setups of the nodes.
     pub(crate) fn nodes(&self) -> &[(NodeName, Setup)]
         ensures { result.now ≡ nodes_of self.now.cast }
     {
         match &self.cast {
             Cast::Named(nodes) => nodes,
             Cast::Running(running) => &running.nodes,
+        }
+    }
+
+    /// Returns the number of the acts for which the script has asked.
+    pub(crate) fn acts(&self) -> usize {
+        match &self.cast {
+            Cast::Running(running) => running.acts(),
+            Cast::Named(_) => 0,
         }
     }
 
@@ -125,7 +133,7 @@ impl NodeThreads {
         }
     }
 
-    /// One node dials another, under the next challenge.
+    /// Lets one node dial another, under the next challenge.
     ///
     /// # Errors
     /// [`AllocError`] if out of memory.
@@ -169,7 +177,7 @@ impl NodeThreads {
         put_ends(out, held, self.end(rt, second, first))
     }
 
-    /// Waits until nothing more happens by itself, and says whether it has come to that.
+    /// Waits until nothing more happens by itself, and prints `settled`, or `busy` if it goes on after the last look.
     ///
     /// # Errors
     /// [`AllocError`] if out of memory.
@@ -181,7 +189,8 @@ impl NodeThreads {
         put_settled(out, settled == Settled::Settled)
     }
 
-    /// Each node as it then is, the one after the other, and its processes.
+    /// Prints each node as it then is, the one after the other, and its processes. With `all`, prints its links,
+    /// monitors and connections too.
     ///
     /// # Errors
     /// [`AllocError`] if out of memory.

@@ -1,4 +1,4 @@
-use Rattle.std.proofs.Common.{◌≡◌, ℕ, true, List, ◌++◌, Ok, Some, None, Option, Result, Err, ap, refl, string_bytes, subst, sym, ◌∙◌}
+use Rattle.std.proofs.Common.{◌≡◌, ℕ, true, List, ◌++◌, Ok, Some, None, Option, ap, refl, string_bytes, subst, sym, ◌∙◌}
 use Rattle.std.specs.Option.{option_copied}
 use Rattle.dist_books.specs.Acting.{Nodes, names_of}
 use Rattle.script_lines.specs.Replies.{expected, is_met, reply_after}
