@@ -2,15 +2,17 @@
 //!
 //! The script comes from a file or on standard input, one command a line. Its output goes to standard
 //! output. [`read_options`] reads the command line. [`run_script`] runs the script; [`run_telling`] writes its
-//! events instead, [`run_drawing`] a drawing of them, and [`run_threads`] gives its nodes threads. With
-//! `--check` scripts are run for their outcomes, which [`Tally`] counts.
+//! events instead, [`run_drawing`] a drawing of them, and [`run_threads`] gives its nodes threads.
+//! [`run_repeating`] does so too, and writes a script that repeats the run. With `--check` scripts are run for
+//! their outcomes, which [`Tally`] counts.
 #![tactic(auto)]
 
 use clap::Error;
 use clap::error::ErrorKind;
 use script_core::{
     CommandLine, Form, FusedWriter, LineRange, Machine, Options, Outcome, STANDARD_INPUT, Tally,
-    put_result, read_options, run_drawing, run_exploring, run_script, run_telling, run_threads,
+    put_result, read_options, run_drawing, run_exploring, run_repeating, run_script, run_telling,
+    run_threads,
 };
 use std::alloc::Global;
 use std::fs;
@@ -38,6 +40,7 @@ fn run<M: Machine, R: Read, W: Write>(
             run_drawing(alloc, reader, writer, options, lines, advice)
         }
         Form::Threads => run_threads(rt, alloc, reader, writer, options, advice),
+        Form::Script => run_repeating(rt, alloc, reader, writer, options, advice),
     }
 }
 
@@ -105,6 +108,8 @@ fn run_one<R: Input + Files + Print + Eprint + Machine>(
         } else {
             eprintln!(rt; "line {line}: {reason}: {advice}")
         };
+    } else if outcome == Outcome::Failed && !advice.is_empty() {
+        let _ = eprintln!(rt; "erldist: {advice}");
     }
     outcome.status()
 }

@@ -4,7 +4,7 @@ use Rattle.std.proofs.Common.{Option, None, Some, Result, Ok, Err, refl, sym, ap
 use Rattle.std.specs.Cmp.Lexicographic.{bytes_decides}
 use Rattle.script_core.specs.Expected.{AreMet, Expects, FirstUnmet, IsMet, last_printed}
 use Rattle.script_session.specs.Running.{LeadsTo}
-use Rattle.script_core.specs.Script.{AtBadLine, Run, TooManyLines, Verdict, Whole, runs_lines, runs_step, stops}
+use Rattle.script_core.specs.Script.{AtBadLine, Run, TooManyLines, Whole, runs_lines, runs_step, stops}
 use Rattle.script_lines.specs.Breaks.{last_line, last_of, later}
 use Rattle.script_lines.specs.Lines.{line_says}
 use Rattle.script_lines.specs.Replies.{expected, is_met}

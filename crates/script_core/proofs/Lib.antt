@@ -4,5 +4,6 @@ pub mod DrawnLemmas
 pub mod LineLemmas
 pub mod KeptLemmas
 pub mod Merging
+pub mod EndsRepeating
 pub mod Expectations
 pub mod ExploredLemmas

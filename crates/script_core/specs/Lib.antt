@@ -4,6 +4,7 @@ pub mod Drawn
 pub mod Lines
 pub mod Kept
 pub mod Threaded
+pub mod Repeated
 pub mod Checking
 pub mod Expected
 pub mod Explored

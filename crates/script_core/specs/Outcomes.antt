@@ -1,6 +1,6 @@
 -- The answer and the output of a run of a script, and the position of a run whose script has come in part.
-use Rattle.std.specs.Prelude.{◌≡◌, ◌≤◌, ℕ, ◌==◌, false, nat_lt, if◌then◌else◌, List, []}
-use Rattle.std.specs.Prelude.{◌++◌, length, All, Option, None, Some, Result, Ok, Err}
+use Rattle.std.specs.Prelude.{◌≡◌, ◌≤◌, ℕ, nat_lt, if◌then◌else◌, List, []}
+use Rattle.std.specs.Prelude.{◌++◌, length, Option, None, Some, Result, Ok, Err}
 use Rattle.std.specs.Io.KnownBytes.{Appends}
 use Rattle.script_core.specs.declared.script.Outcome.{Outcome}
 use Rattle.script_core.specs.declared.script.Outcome.TheVariants.{Ran, BadLine, OutOfMemory, Unmerged, Failed}

@@ -1,5 +1,5 @@
 -- A whole script: what it prints, how it ends, and the state at its end.
-use Rattle.std.specs.Prelude.{ℕ, ◌+◌, ◌==◌, Bool, List, [], ◌∷◌, ◌++◌, length, Result, Ok, Err, nat_lt, if◌then◌else◌}
+use Rattle.std.specs.Prelude.{ℕ, ◌+◌, ◌==◌, List, [], ◌∷◌, ◌++◌, length, Result, Ok, Err, nat_lt, if◌then◌else◌}
 use Rattle.std.specs.List.{slice_split}
 use Rattle.script_lines.specs.Breaks.{is_break}
 use Rattle.script_lines.specs.declared.reason.Reason.{Reason}

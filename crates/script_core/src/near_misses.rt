@@ -5,6 +5,7 @@ use crate::ranges::range_of;
 /// A word as it was written, and the remedy. A `*` at the end stands for any text.
 const NEAR_MISSES: &[(&str, &str)] = &[
     ("--threads=*", "write '--threads' alone"),
+    ("--script=*", "write '--threads --script' and then the file"),
     ("--check=*", "write '--check' and then the files"),
     ("--json", "write '--trace=json'"),
     ("--hex", "write '--trace'"),
@@ -15,6 +16,7 @@ const NEAR_MISSES: &[(&str, &str)] = &[
     ("-trace=text", "write '--trace=text'"),
     ("-picture", "write '--picture'"),
     ("-threads", "write '--threads'"),
+    ("-script", "write '--threads --script'"),
     ("-check", "write '--check'"),
     ("-explore", "write '--explore'"),
     ("-seed", "write '--seed N'"),

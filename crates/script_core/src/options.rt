@@ -19,6 +19,8 @@ pub enum Form {
     Picture(Option<LineRange>),
     /// The text that its commands print, at nodes that have a thread each.
     Threads,
+    /// A plain script that repeats the merged run of nodes that have a thread each.
+    Script,
 }
 
 /// The words of a command line.
@@ -41,9 +43,12 @@ pub struct Options {
     pub trace: Trace,
     /// The form of the output.
     pub form: Form,
-    /// The first challenge word of the handshakes, 0 to 4,294,967,295; 1 where none is given.
+    /// The first challenge word of the handshakes, 0 to 4,294,967,295; [`DEFAULT_SEED`] if none is given.
     pub seed: u32,
 }
+
+/// The first challenge word of the handshakes if none is given.
+pub const DEFAULT_SEED: u32 = 1;
 
 const ABOUT: &str = "Erlang nodes in one process, driven by a script";
 
@@ -74,6 +79,14 @@ const THREADS_AND_EVENTS: &str = "the argument '--threads' cannot be used with '
 /// The words of an item are for runs without threads.
 const THREADS_AND_WORDS: &str =
     "the argument '--threads' cannot be used with '--trace=text': write '--trace' for hex";
+
+/// A script that repeats a run is in place of a trace.
+const SCRIPT_AND_TRACE: &str =
+    "the argument '--script' cannot be used with '--trace': trace the script that it prints";
+
+/// Only a run of threads is repeated by another script.
+const SCRIPT_ALONE: &str =
+    "the argument '--script' goes with '--threads': write '--threads --script'";
 
 const VERSION: &str = "0.1";
 
@@ -131,7 +144,8 @@ comes by themselves.
 
 Exit status: 0 the script ran; 2 wrong command line; 3 bad line; 4 no memory, or no threads; 5 the
 histories of nodes in threads don't merge; 6 reading or writing failed, or the script has more than
-1,048,576 lines; 7 an 'expect' isn't met, or with --check a script failed. docs/SCRIPTS.md tells the whole.";
+1,048,576 lines, or with --script would have; 7 an 'expect' isn't met, or with --check a script failed.
+docs/SCRIPTS.md tells the whole.";
 
 // Adds the options that choose the form of the output.
 fn with_forms<'a>(alloc: Global, command: Command<'a>) -> Result<Command<'a>, Error> {
@@ -161,6 +175,20 @@ fn with_forms<'a>(alloc: Global, command: Command<'a>) -> Result<Command<'a>, Er
         .default_missing_value(ALL_LINES)
         .conflicts_with("trace")?;
     Ok(command.arg(trace)?.arg(threads)?.arg(picture)?)
+}
+
+// Adds the option by which a run of threads is printed as a script.
+fn with_script<'a>(alloc: Global, command: Command<'a>) -> Result<Command<'a>, Error> {
+    let script = Arg::new(alloc, "script")
+        .long("script")
+        .help(
+            "With --threads print, in place of all else, a script without threads that repeats the run, event by event",
+        )
+        .action(ArgAction::SetTrue)
+        .conflicts_with("picture")?
+        .conflicts_with("check")?
+        .conflicts_with("explore")?;
+    Ok(command.arg(script)?)
 }
 
 // Adds the option by which scripts are run for their outcomes.
@@ -216,6 +244,7 @@ fn command<'a>(alloc: Global) -> Result<Command<'a>, Error> {
         .version(VERSION)
         .after_help(COMMANDS);
     let command = with_forms(alloc, command)?;
+    let command = with_script(alloc, command)?;
     let command = with_check(alloc, command)?;
     let command = with_explore(alloc, command)?;
     with_files(alloc, command)
@@ -284,6 +313,13 @@ fn picture_of(words: &[String], lines: &str) -> Result<Form, &'static str> {
 // Returns the form of a script's output, or the reason why the options exclude each other.
 fn form_of(matches: &ArgMatches<'_>, words: &[String]) -> Result<Form, &'static str> {
     let trace = matches.get_str("trace");
+    if matches.get_flag("script") {
+        return match (matches.get_flag("threads"), trace) {
+            (true, None) => Ok(Form::Script),
+            (true, Some(_)) => Err(SCRIPT_AND_TRACE),
+            (false, _) => Err(SCRIPT_ALONE),
+        };
+    }
     match (matches.get_flag("threads"), matches.get_str("picture")) {
         (true, _) if trace == Some("json") => Err(THREADS_AND_EVENTS),
         (true, _) if trace == Some("text") => Err(THREADS_AND_WORDS),
@@ -321,7 +357,7 @@ pub fn read_options<'a>(alloc: Global, words: &'a [String]) -> Result<CommandLin
         options: Options {
             trace: trace_of(&matches),
             form,
-            seed: matches.get_one::<u32>("seed").unwrap_or(1),
+            seed: matches.get_one::<u32>("seed").unwrap_or(DEFAULT_SEED),
         },
         files,
         check,

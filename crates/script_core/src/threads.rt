@@ -17,7 +17,7 @@ use std::mem;
 /// A session of nodes in threads, and the lines that have come and not run yet.
 #[derive(Drop)]
 pub(crate) struct InThreads {
-    session: ThreadedSession,
+    pub(crate) session: ThreadedSession,
     lines: Vec<Vec<u8>>,
 }
 
@@ -28,6 +28,17 @@ impl InThreads {
     {
         InThreads {
             session: ThreadedSession::new(alloc, seed),
+            lines: Vec::new(alloc),
+        }
+    }
+
+    /// Before the first line, of a session that keeps the lines which it runs.
+    pub(crate) fn keeping_lines(alloc: Global, seed: u32) -> InThreads
+        ensures known { IsKnown result.session fresh_known }
+        ensures lines { result.lines.items ≡ [] }
+    {
+        InThreads {
+            session: ThreadedSession::new(alloc, seed).keeping_lines(),
             lines: Vec::new(alloc),
         }
     }
@@ -122,9 +133,9 @@ fn run_to_end<M: Machine, R: Read, W: Write>(
     outcome
 }
 
-// Reads on until the script ends, and returns its end. Runs the lines that one read has given before the
-// next read.
-fn read_all<M: Machine, R: Read, W: Write>(
+/// Reads on until the script ends, and returns its end. Runs the lines that one read has given before the
+/// next read.
+pub(crate) fn read_all<M: Machine, R: Read, W: Write>(
     rt: &M,
     alloc: Global,
     script: &mut Script<InThreads>,
@@ -221,5 +232,6 @@ fn finish<M: Machine, W: Write>(
         },
         Err(Unfinished::OutOfMemory) => Outcome::OutOfMemory,
         Err(Unfinished::Unmerged) => Outcome::Unmerged,
+        Err(Unfinished::Unrepeated) => Outcome::Failed,
     }
 }
