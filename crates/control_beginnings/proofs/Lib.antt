@@ -1,0 +1,13 @@
+pub mod Splits
+pub mod Passing
+pub mod Wrapping
+pub mod Kindred
+pub mod Tagged
+pub mod Identified
+pub mod IdRows
+pub mod Sequences
+pub mod Headings
+pub mod Matching
+pub mod Linked
+pub mod Monitors
+pub mod Signals
