@@ -1,0 +1,5 @@
+mod Completion
+mod Fronts
+mod Letters
+mod Texts
+mod Sized
