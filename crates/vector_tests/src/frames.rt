@@ -1,10 +1,10 @@
 //! Frames between connected nodes, by erl_control.
 
-use crate::places::Reader;
 use crate::texts::{begins, fault, front, reads};
 use anyhow::Result;
 use erl_control::{FrameError, Item, Signal, frame, unframe};
 use erl_term::TermError;
+use fault_places::Reader;
 use item_texts::put_signal;
 use std::alloc::Global;
 

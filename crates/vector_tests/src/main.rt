@@ -9,7 +9,6 @@ mod answers;
 mod frames;
 mod handshakes;
 mod messages;
-mod places;
 mod terms;
 mod texts;
 

@@ -1,10 +1,10 @@
 //! Messages of the handshake, by erl_handshake.
 
-use crate::places::Reader;
 use crate::texts::{begins, fault, front, reads};
 use anyhow::Result;
 use erl_handshake::{Role, ShakeMsg, read, write};
 use erl_term::Refusal;
+use fault_places::Reader;
 use item_texts::put_message;
 use std::alloc::Global;
 

@@ -6,10 +6,10 @@ ghost use Rattle.erl_term.specs.View.{view};
 ghost use Rattle.script_terms.specs.Printing.{term_text};
 ghost use Rattle.vector_tests.specs.Vectors.{IsReading, IsTermAnswer};
 
-use crate::places::Reader;
 use crate::texts::{fault, front, reads};
 use anyhow::Result;
 use erl_term::{Term, TermError, decode, encode};
+use fault_places::Reader;
 use script_terms::put_term;
 use std::alloc::Global;
 

@@ -1,5 +1,5 @@
 use Rattle.std.proofs.lemmas.Result.{IfOk-weaker}
-use Rattle.vector_tests.proofs.Asked.{no_term, term_read}
+use Rattle.vector_tests.proofs.Decoded.{no_term, term_read}
 use Rattle.vector_tests.proofs.terms.answer.Goals as goal
 
 pub returns-in-Ok : goal.returns-in-Ok
