@@ -9,7 +9,13 @@ use item_texts::{ReadItem, read_item};
 use serde_json::{Value, json};
 use std::alloc::{AllocError, Global};
 
-fn of_item(alloc: Global, item: &ReadItem) -> Result<Value, AllocError>
+/// Returns the object of an item's fields: the name of its operation or message, and each field under its name.
+/// Flags and digests are in hex. (ERTS User's Guide, Distribution Protocol, Distribution Handshake and Protocol
+/// between Connected Nodes.)
+///
+/// # Errors
+/// [`AllocError`] if out of memory.
+pub fn item_fields(alloc: Global, item: &ReadItem) -> Result<Value, AllocError>
     ensures { IfOk result (λ v. view v ≡ fields_data item.now) }
 {
     match item {
@@ -25,7 +31,7 @@ pub(crate) fn fields(alloc: Global, bytes: &[u8]) -> Result<Value, AllocError>
     ensures { IfOk result (λ v. AreFields bytes.now (view v)) }
 {
     match read_item(alloc, bytes)? {
-        Some(item) => of_item(alloc, &item),
+        Some(item) => item_fields(alloc, &item),
         None => Ok(Value::Null),
     }
 }
