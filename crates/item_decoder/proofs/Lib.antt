@@ -1,0 +1,4 @@
+mod Flags
+mod Moves
+mod Plain
+mod Joined
