@@ -5,10 +5,14 @@
 //! events instead, [`run_drawing`] a drawing of them, and [`run_threads`] gives its nodes threads.
 //! [`run_repeating`] does so too, and writes a script that repeats the run. With `--check` scripts are run for
 //! their outcomes, which [`Tally`] counts.
+//!
+//! `erldist decode` tells the items in bytes, in place of a script: [`read_decoding`] reads its command line, and
+//! [`run_decoding`] does it.
 #![tactic(auto)]
 
 use clap::Error;
 use clap::error::ErrorKind;
+use item_decoder::{Decoded, DecodingLine, read_decoding, run_decoding};
 use script_core::{
     CommandLine, Form, FusedWriter, LineRange, Machine, Options, Outcome, STANDARD_INPUT, Tally,
     put_result, read_options, run_drawing, run_exploring, run_repeating, run_script, run_telling,
@@ -22,6 +26,9 @@ use std::rt::Files;
 
 /// The exit status for a bad command line.
 const BAD_COMMAND_LINE: u8 = 2;
+
+/// The first word of a command line that decodes bytes.
+const DECODE: &str = "decode";
 
 // Runs the script of a reader, and returns its outcome. Appends the fault of a bad line to `advice`.
 fn run<M: Machine, R: Read, W: Write>(
@@ -199,6 +206,78 @@ fn answered<R: Print + Eprint>(rt: &R, fault: &Error) -> u8 {
     }
 }
 
+// Decodes the bytes of a file, or of standard input for the path `-`. A fault of the file is an error.
+fn decode_file<R: Input + Files, W: Write>(
+    rt: &R,
+    alloc: Global,
+    line: &DecodingLine<'_>,
+    writer: &mut W,
+) -> io::Result<Decoded> {
+    if line.file == STANDARD_INPUT {
+        let mut reader = rt.reader();
+        return Ok(run_decoding(alloc, &mut reader, writer, line.decoding));
+    }
+    let mut reader = fs::open(rt, line.file)?;
+    Ok(run_decoding(alloc, &mut reader, writer, line.decoding))
+}
+
+// Prints the fault of a bad line.
+fn tell_bad_line<R: Eprint>(rt: &R, alloc: Global, decoded: Decoded) {
+    if let Decoded::BadLine(number, fault) = decoded {
+        let mut words = String::new(alloc);
+        let _ = fault.put(&mut words);
+        let _ = eprintln!(rt; "line {number}: {words}");
+    }
+}
+
+/// Decodes bytes, and returns the exit status. Writes nothing after a failed write.
+fn decode<R: Input + Files + Print + Eprint>(rt: &R, alloc: Global, line: &DecodingLine<'_>) -> u8 {
+    let Ok(mut writer) = BufWriter::new(alloc, FusedWriter::new(io::writer(rt))) else {
+        return Decoded::OutOfMemory.status();
+    };
+    match decode_file(rt, alloc, line, &mut writer) {
+        Ok(decoded) => {
+            tell_bad_line(rt, alloc, decoded);
+            decoded.status()
+        }
+        Err(fault) => {
+            let path = line.file;
+            let _ = eprintln!(rt; "erldist: {path} can't be read: {fault}");
+            Decoded::Failed.status()
+        }
+    }
+}
+
+/// Carries out a command line of `decode`, whose first word that is, and returns the exit status.
+fn carry_out_decode<R: Input + Files + Print + Eprint>(
+    rt: &R,
+    alloc: Global,
+    words: &[String],
+) -> u8 {
+    match read_decoding(alloc, words) {
+        Ok(line) => decode(rt, alloc, &line),
+        Err(fault) => answered(rt, &fault),
+    }
+}
+
+/// Carries out the words of a command line, and returns the exit status.
+fn carry_out_words<R: Input + Files + Print + Eprint + Machine>(
+    rt: &R,
+    alloc: Global,
+    words: &[String],
+) -> u8 {
+    if let [_, rest @ ..] = words
+        && let Some(first) = rest.first()
+        && first.as_str() == DECODE
+    {
+        return carry_out_decode(rt, alloc, rest);
+    }
+    match read_options(alloc, words) {
+        Ok(line) => carry_out(rt, alloc, &line),
+        Err(fault) => answered(rt, &fault),
+    }
+}
+
 fn main(rt: HostRuntime) -> ExitCode {
     let alloc = rt.alloc();
     let words = match std::env::args(&rt) {
@@ -209,8 +288,5 @@ fn main(rt: HostRuntime) -> ExitCode {
         Ok(words) => words,
         Err(_) => return ExitCode::from(Outcome::OutOfMemory.status()),
     };
-    ExitCode::from(match read_options(alloc, words.as_slice()) {
-        Ok(line) => carry_out(&rt, alloc, &line),
-        Err(fault) => answered(&rt, &fault),
-    })
+    ExitCode::from(carry_out_words(&rt, alloc, words.as_slice()))
 }

@@ -91,6 +91,9 @@ const SCRIPT_ALONE: &str =
 const VERSION: &str = "0.1";
 
 const COMMANDS: &str = "\
+'erldist decode' tells the terms, frames and messages of the handshake in bytes; 'erldist decode --help' tells
+more.
+
 Commands of a script, one a line:
   node NAME COOKIE [PROFILE]
                      a node; PROFILE is 1, 2 or 3, by default 3; node lines come before all other commands
