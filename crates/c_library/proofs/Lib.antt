@@ -1,0 +1,7 @@
+mod Answered
+mod Rows
+mod Written
+mod Putting
+mod Tells
+mod Said
+mod Seen

@@ -1,0 +1,12 @@
+pub mod Numbers
+pub mod Elements
+pub mod Parts
+pub mod Places
+pub mod Frames
+pub mod Written
+pub mod Pids
+pub mod Rows
+pub mod Putting
+pub mod Messages
+pub mod Saying
+pub mod Reading
