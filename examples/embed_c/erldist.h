@@ -144,8 +144,8 @@ uint32_t erldist_read_pid(const uint8_t *bytes, size_t bytes_length, erldist_see
 /* The next three write a frame to `out`, and its length to `length`, and return ERLDIST_OK. Each term is
  * in its canonical spelling. The bytes of `out` behind the frame stay. They return ERLDIST_MALFORMED if
  * the name of a node isn't UTF-8 of at most 255 characters, and write 0 to `length`. Then they return
- * ERLDIST_BAD_CONTROL if `id` is 0, and write 0 too. They return ERLDIST_NO_ROOM if `out` is shorter than the frame, and write the
- * length that is needed. Unless they return ERLDIST_OK, `out` stays as it was. */
+ * ERLDIST_BAD_CONTROL if `id` is 0, and write 0 too. They return ERLDIST_NO_ROOM if `out` is shorter than
+ * the frame, and write the length that is needed. Unless they return ERLDIST_OK, `out` stays as it was. */
 
 /* Writes LINK. (Distribution Protocol, Protocol between Connected Nodes.) */
 uint32_t erldist_put_link(const uint8_t *from_node, size_t from_node_length, const erldist_pid *from,
