@@ -39,7 +39,7 @@ own_len Frame bytes = least (4 + big_number 4 bytes) (length bytes)
 own_len (Message role) bytes = least (2 + big_number 2 bytes) (length bytes)
 
 -- so many of the item's bytes begin one, and one more doesn't. All of them begin one where only the end of the item is wrong, or
--- that which it carries doesn't fit
+-- its message or reason doesn't fit
 pub record IsPlace (reader : Reader) (bytes : List ℕ) (n : ℕ) : Type 0 where
   pub inside : n ≤ own_len reader bytes
   pub goes : 0 < n → Goes reader (take n bytes)

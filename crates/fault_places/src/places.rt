@@ -73,7 +73,7 @@ fn length_begins(field: &[u8]) -> bool
     field.len() <= 4 && number_of(field) as usize <= FRAME_LIMIT
 }
 
-// Returns true if that which follows the length of a frame begins with the bytes.
+// Returns true if the body of a frame, behind its length, begins with the bytes.
 fn frame_body_begins(alloc: Global, body: &[u8]) -> Result<bool, AllocError>
     ensures { IfOk result (λ begins. IsTrue begins ↔ Begins IsFrameBody body.now) }
 {

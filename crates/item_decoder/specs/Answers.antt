@@ -1,4 +1,4 @@
--- The answer of a reader to bytes: that which is due to them.
+-- The answer of a reader to bytes, as it is due to them.
 -- (ERTS User's Guide, External Term Format; Distribution Protocol, Distribution Handshake and Protocol between Connected Nodes.)
 use Rattle.std.specs.Prelude.{◌≢◌, ℕ, Bool, true, false, List, Some, None, Ok, Err}
 use Rattle.erl_control.specs.Answer.{IsFrameDue}

@@ -28,7 +28,7 @@ flag_names (suc left) bits = one_name (64 - suc left) bits ++ flag_names left (b
 abbrev pub names_data : List (List ℕ) → Data
 names_data names = array (items_of (map string names))
 
--- that which was read: a term as its text, or an item by its fields
+-- a term as its text, or an item by its fields
 abbrev pub term_data : Term → Data
 term_data term = object (member (codes "term") (string (term_text term)) no_members)
 

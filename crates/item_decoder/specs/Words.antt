@@ -1,4 +1,4 @@
--- The words for that which was read.
+-- The words for terms and items that were read.
 -- (ERTS User's Guide, Distribution Protocol, Distribution Flags, Distribution Handshake and Protocol between Connected Nodes.)
 use Rattle.std.specs.Prelude.{ℕ, zero, suc, ◌-◌, ◌==◌, ◌%◌, ◌/◌, List, [], ◌++◌, codes, if◌then◌else◌}
 use Rattle.std.specs.Fmt.{decimal}

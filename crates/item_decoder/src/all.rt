@@ -77,7 +77,7 @@ pub struct Progress {
 pub struct Step {
     /// The number of its bytes.
     pub len: usize,
-    /// That which comes behind it.
+    /// The form and the stage of the bytes behind it.
     pub next: Next,
     /// True if it was read.
     pub found: bool,

@@ -75,7 +75,7 @@ fn term_object(alloc: Global, term: &Term) -> Result<Value, AllocError>
     json!(in alloc; {"term": text})
 }
 
-// Returns the object of that which was read.
+// Returns the object of a term or an item that was read.
 fn item_object(alloc: Global, found: &Found) -> Result<Value, AllocError>
     ensures { IfOk result (λ v. view v ≡ told_item found.now) }
 {

@@ -134,7 +134,7 @@ impl Next {
         }
     }
 
-    /// Returns that which comes behind this answer.
+    /// Returns the form and the stage of the bytes behind this answer.
     pub fn after(self, answer: &Answer) -> Next
         ensures { result ≡ after self answer.now }
     {

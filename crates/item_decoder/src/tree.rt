@@ -255,7 +255,7 @@ fn put_message_tree(
     }
 }
 
-/// Appends a line for each field of that which was read from these bytes, the first of which is at this place. The
+/// Appends a line for each field of the item that was read from these bytes, the first of which is at this place. The
 /// field of a field stands two spaces further in.
 ///
 /// # Errors

@@ -1,4 +1,4 @@
-//! The words for that which was read.
+//! The words for terms and items that were read.
 ghost use Rattle.std.specs.Prelude.{◌≡◌, ◌≤◌, ◌++◌, OnOk, string_bytes};
 ghost use Rattle.item_decoder.specs.Words.{flag_name, flag_text, flag_words, found_text, message_words, one_flag};
 ghost use Rattle.item_texts.specs.Words.{field};
@@ -100,7 +100,7 @@ fn put_message_words(alloc: Global, out: &mut String, message: &ShakeMsg) -> Res
     }
 }
 
-/// Appends the words for that which was read. A term is `term` and its text, and a signal its operation and its
+/// Appends the words for a term or an item that was read. A term is `term` and its text, and a signal its operation and its
 /// fields. A message is its name and its fields, and behind these the name of each of its flags.
 ///
 /// # Errors
